@@ -1,0 +1,5 @@
+pub mod Every
+pub mod Contents
+pub mod Numbers
+pub mod Tested
+pub mod Whole

@@ -1,0 +1,5 @@
+pub mod Meaning
+pub mod Calls
+pub mod Runs
+pub mod Crash
+pub mod Numbers
