@@ -105,6 +105,6 @@ module _ {C : Type 0} {m : Meaning C} (l : Lawful m) where
 
   -- a call on the file itself keeps it where all that could remain after its work has it
   pub every-own :
-    (c c′ : C) (n : Name) (op : Op) (a : Option Cause) (P : Option Bytes → Type 0) →
-    Every m c n P → ((o : Option Bytes) → Could op (May m c n) (m .holds c n) o → P o) → Called m c n op a c′ → Every m c′ n P
+      (c c′ : C) (n : Name) (op : Op) (a : Option Cause) (P : Option Bytes → Type 0) →
+      Every m c n P → ((o : Option Bytes) → Could op (May m c n) (m .holds c n) o → P o) → Called m c n op a c′ → Every m c′ n P
   every-own c c′ n op a P h w d o r = ⊎-elim (h o) (λ x. w o (x .1)) (may-own m c c′ n op a o d r)

@@ -3,3 +3,4 @@ pub mod Contents
 pub mod Numbers
 pub mod Tested
 pub mod Whole
+pub mod Cases

@@ -11,8 +11,17 @@ use Rattle.card.proofs.Contents.{overwrite-inside}
 
 pub number-of-bytes : (n : ℕ) → n < 2 ^ 32 → number-at (number-bytes n) 0 ≡ n
 number-of-bytes n h =
-    omega (arith, div-add-mod' n 256, div-add-mod' (n / 256) 256, div-add-mod' (n / 65536) 256, div-add-mod' (n / 16777216) 256,
-        div-div-eq-div-mul n 256 256, div-div-eq-div-mul n 65536 256, div-div-eq-div-mul n 16777216 256, top)
+    omega (
+      arith,
+      div-add-mod' n 256,
+      div-add-mod' (n / 256) 256,
+      div-add-mod' (n / 65536) 256,
+      div-add-mod' (n / 16777216) 256,
+      div-div-eq-div-mul n 256 256,
+      div-div-eq-div-mul n 65536 256,
+      div-div-eq-div-mul n 16777216 256,
+      top,
+    )
   where
     top : n / 4294967296 ≡ 0
     top = div-eq-of-lt h

@@ -38,7 +38,7 @@ resized-between old n =
 
 -- the file's content after the work could remain, where its content before it could
 pub worked-could :
-  (op : Op) (n : Name) (could : Option Bytes → Type 0) (f : Option Bytes) (b : Bytes) → tested op n f ≡ None → could f → worked op f ≡ Some b → Could op could f (Some b)
+    (op : Op) (n : Name) (could : Option Bytes → Type 0) (f : Option Bytes) (b : Bytes) → tested op n f ≡ None → could f → worked op f ≡ Some b → Could op could f (Some b)
 worked-could length-of n could f b t c w = subst could w c
 worked-could (read p k) n could f b t c w = subst could w c
 worked-could create n could f b t c w = sym w

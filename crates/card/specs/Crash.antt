@@ -24,8 +24,8 @@ Leaves k (a ∷ acts) = (k ≡ a .name → ⊥) × Leaves k acts
 pub record Crash-law {C : Type 0} (m : Meaning C) : Type 0 where
   pub held : (c : C) (n : Name) → May m c n (m .holds c n)
   pub other :
-    (c c′ : C) (n k : Name) (op : Op) (a : Option Cause) (o : Option Bytes) → (k ≡ n → ⊥) → Called m c n op a c′ → May m c′ k o → May m c k o
+      (c c′ : C) (n k : Name) (op : Op) (a : Option Cause) (o : Option Bytes) → (k ≡ n → ⊥) → Called m c n op a c′ → May m c′ k o → May m c k o
   pub own :
-    (c c′ : C) (n : Name) (op : Op) (a : Option Cause) (o : Option Bytes) → Called m c n op a c′ → May m c′ n o →
-    May m c n o ⊎ ((tested op n (m .holds c n) ≡ None) × Could op (May m c n) (m .holds c n) o)
+      (c c′ : C) (n : Name) (op : Op) (a : Option Cause) (o : Option Bytes) → Called m c n op a c′ → May m c′ n o →
+      May m c n o ⊎ ((tested op n (m .holds c n) ≡ None) × Could op (May m c n) (m .holds c n) o)
   pub run : (c c′ : C) (k : Name) (acts : List Act) (e : End) (o : Option Bytes) → Leaves k acts → Runs m acts c e c′ → May m c′ k o → May m c k o

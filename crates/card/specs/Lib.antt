@@ -3,3 +3,4 @@ pub mod Calls
 pub mod Runs
 pub mod Crash
 pub mod Numbers
+pub mod Examples

@@ -9,17 +9,23 @@ ghost use mathlib.Core.List.{List};
 ghost use Prim.Native.Nat.{ℕ};
 ghost use lib.ListN.{length as count};
 ghost use Rattle.std.specs.declared.option.Option.{Option};
-ghost use Rattle.std.specs.declared.option.Option.the-variants.{Some, None};
-ghost use Rattle.card.specs.Meaning.{Meaning, Switched};
+ghost use Rattle.card.specs.Meaning.{Meaning, Lawful, Switched};
 ghost use Rattle.card.specs.Calls.{Answered, Told-length, Told-bytes};
 ghost use Rattle.card.specs.Calls.Op.{length-of, read as reading, create as creating, write as writing, set-length, sync as syncing, delete as deleting};
 ghost use Rattle.card.specs.Crash.{Crash-law};
+ghost use Rattle.card.specs.Examples.{Examples};
 
 mod fault;
 
 pub use fault::CardCall;
+pub use fault::CardCallDebug;
+pub use fault::CardCallPartialEq;
 pub use fault::CardFault;
+pub use fault::CardFaultDebug;
+pub use fault::CardFaultPartialEq;
 pub use fault::Cause;
+pub use fault::CauseDebug;
+pub use fault::CausePartialEq;
 
 /// The most bytes that a name has; the fewest is 1.
 pub const NAME_LIMIT: usize = 32;
@@ -39,10 +45,6 @@ pub trait Card {
 
     /// The origins that the faults of this card, and of the cards below it, may carry.
     ghost origins: { Self → ℕ → Type 0 };
-
-    law kept: { (c : Self) (n b : List ℕ) → holds c n ≡ Some b → remains c n b };
-
-    law gone: { (c : Self) (n b : List ℕ) → holds c n ≡ None → remains c n b → ⊥ };
 
     /// How many bytes the file holds now, or none if it is absent.
     fn length(&mut self, name: &[u8]) -> Result<Option<u32>, CardFault>
@@ -78,15 +80,18 @@ pub trait Card {
     fn power(&mut self)
         ensures { λ _. ⌜ Switched (record { on = on; holds = holds; remains = remains; origins = origins }) (now (self .entry)) (now (self .exit)) ⌝ };
 
-    /// Whether power is on. It is never refused.
+    /// Whether power is on. It is never refused. Its contract also carries the two laws that every
+    /// card's meaning keeps: what a file holds now may remain, and of an absent file only absence.
     fn powered(&self) -> bool
-        ensures { λ r. ⌜ r ≡ on (now (self .entry)) ⌝ };
+        ensures on { λ r. ⌜ r ≡ on (now (self .entry)) ⌝ }
+        ensures laws { λ _. ⌜ Lawful (record { on = on; holds = holds; remains = remains; origins = origins }) ⌝ };
 }
 
 /// What the meaning of any card lets a proof say about power failure: its contract is the law that
 /// what a file may be after a call could remain before it, or, of the call's own file, after its
-/// work. It answers whether the card that it was shown has power.
+/// work; and small cases of the calls. It answers whether the card that it was shown has power.
 pub fn crash_law<C: Card>(card: &C) -> bool
+    ensures examples { λ _. ⌜ Examples ⌝ }
     ensures law { λ _. ⌜ Crash-law (record { on = C·Card .on; holds = C·Card .holds; remains = C·Card .remains; origins = C·Card .origins }) ⌝ }
     ensures powered { λ r. ⌜ r ≡ C·Card .on (now (card .entry)) ⌝ }
 {

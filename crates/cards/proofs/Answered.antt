@@ -14,8 +14,8 @@ use Rattle.card.specs.declared.fault.CardFault.{CardFault}
 use Rattle.card.specs.Meaning.{May, Same, Bytes, Name}
 use Rattle.card.specs.Calls.{Op, length-of, read, create, write, set-length, sync, delete, Called, Worked, Answered, Fault-of, call-of, cause-of, test, tested, after-name, in-range, name-ok, worked}
 use Rattle.card.proofs.Whole.{worked-could}
-use Rattle.cards.specs.Layout.{held}
-use Rattle.cards.specs.Stored.{Done, Left, Stored, refusal, answer-of, or-device, crowded}
+use Rattle.image.specs.Layout.{held}
+use Rattle.image.specs.Stored.{Done, Left, Stored, refusal, answer-of, or-device, crowded}
 use Rattle.cards.specs.Direct.{direct, Direct, blamed, From-origin}
 
 -- the tests never name power
@@ -64,14 +64,15 @@ module _ {V : Type 0} (call : CardCall) (origin : ℕ) where
   blamed-from (Err x) = refl
 
 pub image-direct :
-  {V : Type 0} (op : Op) (n : Name) (origin : ℕ) (image image′ : Bytes) (a : Result V Cause) (r : Result V CardFault) →
-  Stored op n image a image′ → r ≡ blamed (call-of op) origin a → Direct op n origin image r image′
+    {V : Type 0} (op : Op) (n : Name) (origin : ℕ) (image image′ : Bytes) (a : Result V Cause) (r : Result V CardFault) →
+    Stored op n image a image′ → r ≡ blamed (call-of op) origin a → Direct op n origin image r image′
 image-direct {V} op n origin image image′ a r stored is =
     subst (λ (x : Result V CardFault). Direct op n origin image x image′) (sym is)
-      (record {
-        answer = blamed-cause (call-of op) origin a ∙ stored .answer;
-        left = subst (λ (x : Option Cause). Left x op n image image′) (sym (blamed-cause (call-of op) origin a)) (stored .left);
-        from = blamed-from (call-of op) origin a })
+    (record {
+      answer = blamed-cause (call-of op) origin a ∙ stored .answer;
+      left = subst (λ (x : Option Cause). Left x op n image image′) (sym (blamed-cause (call-of op) origin a)) (stored .left);
+      from = blamed-from (call-of op) origin a;
+    })
 
 module _ {C : Type 0} (image : C → Bytes) (origin : C → ℕ) (c c′ : C) (op : Op) (n : Name) where
   same : image c′ ≡ image c → Same (direct image origin) c c′
@@ -80,9 +81,13 @@ module _ {C : Type 0} (image : C → Bytes) (origin : C → ℕ) (c c′ : C) (o
   done-worked : tested op n (held (image c) n) ≡ None → Done op n (image c) (image c′) → Worked (direct image origin) c n op c′
   done-worked lawful done =
       record {
-        powered = refl; lawful = lawful; still = refl; holds = done .own;
+        powered = refl;
+        lawful = lawful;
+        still = refl;
+        holds = done .own;
         remains = λ b r. worked-could op n (May (direct image origin) c n) (held (image c) n) b lawful (held-may (held (image c) n) refl) (sym (done .own) ∙ r);
-        others = λ k ne. record { holds = done .others k ne; remains = λ b r. sym (done .others k ne) ∙ r } }
+        others = λ k ne. record { holds = done .others k ne; remains = λ b r. sym (done .others k ne) ∙ r };
+      }
     where
       held-may : (o : Option Bytes) → held (image c) n ≡ o → May (direct image origin) c n o
       held-may None e = e
@@ -106,8 +111,8 @@ module _ {C : Type 0} (image : C → Bytes) (origin : C → ℕ) (c c′ : C) (o
 
   -- what a card over an image answers, from what the image answers
   pub image-answered :
-    {V : Type 0} (a : Result V Cause) (r : Result V CardFault) →
-    Stored op n (image c) a (image c′) → r ≡ blamed (call-of op) (origin c) a → origin c′ ≡ origin c → Answered (direct image origin) c n op r c′
+      {V : Type 0} (a : Result V Cause) (r : Result V CardFault) →
+      Stored op n (image c) a (image c′) → r ≡ blamed (call-of op) (origin c) a → origin c′ ≡ origin c → Answered (direct image origin) c n op r c′
   image-answered {V} a r stored is kept =
       let d = image-direct op n (origin c) (image c) (image c′) a r stored is in
       record { called = left-called (cause-of r) (d .answer) (d .left); fault = subst (λ (x : Result V CardFault). Fault-of (direct image origin) c op x) (sym is) (fault-of a); origins = λ o e. e ∙ kept }

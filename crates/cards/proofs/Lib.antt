@@ -1,7 +1,1 @@
-pub mod Bytes
-pub mod Named
-pub mod First
-pub mod Image
-pub mod Files
-pub mod Freeing
 pub mod Answered

@@ -11,8 +11,8 @@ use Rattle.card.specs.declared.fault.CardCall.{CardCall}
 use Rattle.card.specs.declared.fault.CardFault.{CardFault}
 use Rattle.card.specs.Meaning.{Meaning, Bytes, Name}
 use Rattle.card.specs.Calls.{Op, cause-of}
-use Rattle.cards.specs.Layout.{held}
-use Rattle.cards.specs.Stored.{answer-of, Left}
+use Rattle.image.specs.Layout.{held}
+use Rattle.image.specs.Stored.{answer-of, Left}
 
 -- a cause as the fault of a call
 abbrev pub blamed : {V : Type 0} → CardCall → ℕ → Result V Cause → Result V CardFault

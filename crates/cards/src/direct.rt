@@ -8,11 +8,10 @@ ghost use Rattle.std.specs.declared.option.Option.the-variants.{Some};
 ghost use Rattle.card.specs.Meaning.{Switched};
 ghost use Rattle.card.specs.Calls.{Answered, Told-length, Told-bytes};
 ghost use Rattle.card.specs.Calls.Op.{length-of, read as reading, create as creating, write as writing, set-length, sync as syncing, delete as deleting};
-ghost use Rattle.cards.specs.Layout.{held};
-ghost use Rattle.cards.specs.Stored.{Empty};
+ghost use Rattle.image.specs.Layout.{held};
+ghost use Rattle.image.specs.Stored.{Empty};
 ghost use Rattle.cards.specs.Direct.{direct, Direct};
 use crate::fault::blame;
-use crate::slots;
 use card::Card;
 use card::CardCall;
 use card::CardFault;
@@ -31,7 +30,7 @@ impl DirectCard<'_> {
         ensures size { λ r. ⌜ count (now (r .image)) ≡ count (now (image .entry)) ⌝ }
         ensures origin { λ r. ⌜ r .origin ≡ origin ⌝ }
     {
-        slots::clear(image);
+        image::clear(image);
         DirectCard { image, origin }
     }
 }
@@ -51,7 +50,11 @@ pub impl<'a> Card for DirectCard<'a> as DirectCardCard {
         ensures direct { λ r. ⌜ Direct length-of (now (name .entry)) (now (self .entry) .origin) (lent (now (self .entry) .image)) r (lent (now (self .exit) .image)) ⌝ }
         ensures origin { λ _. ⌜ now (self .exit) .origin ≡ now (self .entry) .origin ⌝ }
     {
-        blame(slots::length(self.image, name), CardCall::Length, self.origin)
+        blame(
+            image::length(self.image, name),
+            CardCall::Length,
+            self.origin,
+        )
     }
 
     fn read(&mut self, name: &[u8], place: u32, buffer: &mut [u8]) -> Result<(), CardFault>
@@ -60,7 +63,11 @@ pub impl<'a> Card for DirectCard<'a> as DirectCardCard {
         ensures direct { λ r. ⌜ Direct (reading place (count (now (buffer .entry)))) (now (name .entry)) (now (self .entry) .origin) (lent (now (self .entry) .image)) r (lent (now (self .exit) .image)) ⌝ }
         ensures origin { λ _. ⌜ now (self .exit) .origin ≡ now (self .entry) .origin ⌝ }
     {
-        blame(slots::read(self.image, name, place, buffer), CardCall::Read, self.origin)
+        blame(
+            image::read(self.image, name, place, buffer),
+            CardCall::Read,
+            self.origin,
+        )
     }
 
     fn create(&mut self, name: &[u8]) -> Result<(), CardFault>
@@ -68,7 +75,11 @@ pub impl<'a> Card for DirectCard<'a> as DirectCardCard {
         ensures direct { λ r. ⌜ Direct creating (now (name .entry)) (now (self .entry) .origin) (lent (now (self .entry) .image)) r (lent (now (self .exit) .image)) ⌝ }
         ensures origin { λ _. ⌜ now (self .exit) .origin ≡ now (self .entry) .origin ⌝ }
     {
-        blame(slots::create(self.image, name), CardCall::Create, self.origin)
+        blame(
+            image::create(self.image, name),
+            CardCall::Create,
+            self.origin,
+        )
     }
 
     fn write(&mut self, name: &[u8], place: u32, bytes: &[u8]) -> Result<(), CardFault>
@@ -76,7 +87,11 @@ pub impl<'a> Card for DirectCard<'a> as DirectCardCard {
         ensures direct { λ r. ⌜ Direct (writing place (now (bytes .entry))) (now (name .entry)) (now (self .entry) .origin) (lent (now (self .entry) .image)) r (lent (now (self .exit) .image)) ⌝ }
         ensures origin { λ _. ⌜ now (self .exit) .origin ≡ now (self .entry) .origin ⌝ }
     {
-        blame(slots::write(self.image, name, place, bytes), CardCall::Write, self.origin)
+        blame(
+            image::write(self.image, name, place, bytes),
+            CardCall::Write,
+            self.origin,
+        )
     }
 
     fn set_length(&mut self, name: &[u8], length: u32) -> Result<(), CardFault>
@@ -84,7 +99,11 @@ pub impl<'a> Card for DirectCard<'a> as DirectCardCard {
         ensures direct { λ r. ⌜ Direct (set-length length) (now (name .entry)) (now (self .entry) .origin) (lent (now (self .entry) .image)) r (lent (now (self .exit) .image)) ⌝ }
         ensures origin { λ _. ⌜ now (self .exit) .origin ≡ now (self .entry) .origin ⌝ }
     {
-        blame(slots::set_length(self.image, name, length), CardCall::SetLength, self.origin)
+        blame(
+            image::set_length(self.image, name, length),
+            CardCall::SetLength,
+            self.origin,
+        )
     }
 
     fn sync(&mut self, name: &[u8]) -> Result<(), CardFault>
@@ -92,7 +111,7 @@ pub impl<'a> Card for DirectCard<'a> as DirectCardCard {
         ensures direct { λ r. ⌜ Direct syncing (now (name .entry)) (now (self .entry) .origin) (lent (now (self .entry) .image)) r (lent (now (self .exit) .image)) ⌝ }
         ensures origin { λ _. ⌜ now (self .exit) .origin ≡ now (self .entry) .origin ⌝ }
     {
-        blame(slots::sync(self.image, name), CardCall::Sync, self.origin)
+        blame(image::sync(self.image, name), CardCall::Sync, self.origin)
     }
 
     fn delete(&mut self, name: &[u8]) -> Result<(), CardFault>
@@ -100,10 +119,20 @@ pub impl<'a> Card for DirectCard<'a> as DirectCardCard {
         ensures direct { λ r. ⌜ Direct deleting (now (name .entry)) (now (self .entry) .origin) (lent (now (self .entry) .image)) r (lent (now (self .exit) .image)) ⌝ }
         ensures origin { λ _. ⌜ now (self .exit) .origin ≡ now (self .entry) .origin ⌝ }
     {
-        blame(slots::delete(self.image, name), CardCall::Delete, self.origin)
+        blame(
+            image::delete(self.image, name),
+            CardCall::Delete,
+            self.origin,
+        )
     }
 
-    fn power(&mut self) {}
+    fn power(&mut self)
+        ensures switched { λ _. ⌜ Switched (direct (λ c. lent (c .image)) (λ c. c .origin)) (now (self .entry)) (now (self .exit)) ⌝ }
+        ensures image { λ _. ⌜ lent (now (self .exit) .image) ≡ lent (now (self .entry) .image) ⌝ }
+        ensures origin { λ _. ⌜ now (self .exit) .origin ≡ now (self .entry) .origin ⌝ }
+    {
+        // power is never off
+    }
 
     fn powered(&self) -> bool {
         true

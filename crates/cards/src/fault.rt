@@ -11,6 +11,10 @@ pub fn blame<T>(answer: Result<T, Cause>, call: CardCall, origin: u8) -> Result<
 {
     match answer {
         Ok(value) => Ok(value),
-        Err(cause) => Err(CardFault { cause, call, origin }),
+        Err(cause) => Err(CardFault {
+            cause,
+            call,
+            origin,
+        }),
     }
 }

@@ -8,4 +8,5 @@ returns c =
     record {
       answered = image-answered (λ k. k .image .now) (λ k. k .origin) (c .args .self .now) _ (set-length (c .args .length)) (c .args .name .now) (c .set-length .result) (c .blame .result) (c .set-length .ensures) (c .blame .ensures) refl;
       direct = image-direct (set-length (c .args .length)) (c .args .name .now) (c .args .self .now .origin) (c .args .self .now .image .now) _ (c .set-length .result) (c .blame .result) (c .set-length .ensures) (c .blame .ensures);
-      origin = refl }
+      origin = refl;
+    }

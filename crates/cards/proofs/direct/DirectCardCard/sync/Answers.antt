@@ -8,4 +8,5 @@ returns c =
     record {
       answered = image-answered (λ k. k .image .now) (λ k. k .origin) (c .args .self .now) _ sync (c .args .name .now) (c .sync .result) (c .blame .result) (c .sync .ensures) (c .blame .ensures) refl;
       direct = image-direct sync (c .args .name .now) (c .args .self .now .origin) (c .args .self .now .image .now) _ (c .sync .result) (c .blame .result) (c .sync .ensures) (c .blame .ensures);
-      origin = refl }
+      origin = refl;
+    }

@@ -1,6 +1,0 @@
-use mathlib.Core.Path.{refl}
-use Rattle.cards.proofs.Image.{slot-within}
-use Rattle.cards.proofs.slots.start.Needs as need
-
-pub returns : need.returns
-returns c = record { is = refl; within = slot-within (c .args .image .now) (c .args .k) (c .pre) }

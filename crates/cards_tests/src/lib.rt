@@ -1,0 +1,3 @@
+// The edges of the cards: limits of names, files and slots, run and compared.
+#[cfg(test)]
+mod direct_edges;
