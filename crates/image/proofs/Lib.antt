@@ -4,3 +4,4 @@ pub mod First
 pub mod Slices
 pub mod Files
 pub mod Freeing
+pub mod Backed

@@ -73,7 +73,7 @@ fn is_name(name: &[u8]) -> bool
 }
 
 /// The slot of a present file, or why there is none.
-fn present(image: &[u8], name: &[u8]) -> Result<usize, Cause>
+pub fn present(image: &[u8], name: &[u8]) -> Result<usize, Cause>
     ensures { λ r. ⌜ Present-at (now (name .entry)) (now (image .entry)) r ⌝ }
 {
     match find(image, name) {
