@@ -1,4 +1,5 @@
 // Cards that keep their files in an image that the caller lends.
+mod cut;
 mod direct;
 mod fault;
 

@@ -46,8 +46,8 @@ backed-at current synced n k found = first-at n (slot current) (λ j. content (s
 
 -- a settled slot matters to the file that lies in it alone
 pub backed-settled :
-  (current synced synced′ : Bytes) (n m : Name) (k : ℕ) → (m ≡ n → ⊥) → named n (slot current k) ≡ true → ((j : ℕ) → j < 16 → (j ≡ k → ⊥) → slot synced′ j ≡ slot synced j) →
-  backed current synced′ m ≡ backed current synced m
+    (current synced synced′ : Bytes) (n m : Name) (k : ℕ) → (m ≡ n → ⊥) → named n (slot current k) ≡ true → ((j : ℕ) → j < 16 → (j ≡ k → ⊥) → slot synced′ j ≡ slot synced j) →
+    backed current synced′ m ≡ backed current synced m
 unfolding backed
 backed-settled current synced synced′ n m k ne is there = first-same m (slot current) (slot current) (λ j. content (slot synced′ j)) (λ j. content (slot synced j)) 16 (λ j lt. refl) each
   where
@@ -65,36 +65,40 @@ backed-moved op n m current synced current′ done ne = done .slots m (λ k. con
 
 -- a call that moves no file leaves the synced half to what it is
 pub pair-stays :
-  (op : Op) (n : Name) (current synced current′ : Bytes) → Done op n current current′ → moves op ≡ false → ((c s : Option Bytes) → backing op c s ≡ s) → Pair-done op n current synced current′ synced
+    (op : Op) (n : Name) (current synced current′ : Bytes) → Done op n current current′ → moves op ≡ false → ((c s : Option Bytes) → backing op c s ≡ s) → Pair-done op n current synced current′ synced
 pair-stays op n current synced current′ done still keeps =
     record {
       done = done;
       own = backed-moved op n n current synced current′ done (λ t. absurd (both-ways (moves op) still t)) ∙ sym (keeps (held current n) (backed current synced n));
-      others = λ m ne. backed-moved op n m current synced current′ done (λ t. ne) }
+      others = λ m ne. backed-moved op n m current synced current′ done (λ t. ne);
+    }
 
 pub pair-synced : (n : Name) (current synced synced′ : Bytes) (k : ℕ) → First-slot (named n) current (Some k) → Settled current synced k synced′ → Pair-done sync n current synced current synced′
 pair-synced n current synced synced′ k found settled =
     record {
       done = done-looked sync n current refl (λ j. refl);
       own = backed-at current synced′ n k found ∙ ap (λ (s : Bytes). Some (content s)) (settled .here) ∙ sym (held-at current n k found);
-      others = λ m ne. backed-settled current synced synced′ n m k ne (found .1) (settled .there) }
+      others = λ m ne. backed-settled current synced synced′ n m k ne (found .1) (settled .there);
+    }
 
 pub pair-created :
-  (n : Name) (current synced current′ synced′ : Bytes) (k : ℕ) → Done create n current current′ → First-slot (named n) current′ (Some k) → Settled current′ synced k synced′ → Pair-done create n current synced current′ synced′
+    (n : Name) (current synced current′ synced′ : Bytes) (k : ℕ) → Done create n current current′ → First-slot (named n) current′ (Some k) → Settled current′ synced k synced′ → Pair-done create n current synced current′ synced′
 pair-created n current synced current′ synced′ k done found settled =
     record {
       done = done;
       own = backed-at current′ synced′ n k found ∙ ap (λ (s : Bytes). Some (content s)) (settled .here) ∙ sym (held-at current′ n k found) ∙ done .own;
-      others = λ m ne. backed-settled current′ synced synced′ n m k ne (found .1) (settled .there) ∙ backed-moved create n m current synced current′ done (λ t. ne) }
+      others = λ m ne. backed-settled current′ synced synced′ n m k ne (found .1) (settled .there) ∙ backed-moved create n m current synced current′ done (λ t. ne);
+    }
 
 -- a created file has a slot
 pub created-found : (n : Name) (current current′ : Bytes) → Done create n current current′ → First-slot (named n) current′ None → ⊥
 created-found n current current′ done none = some-none (sym (done .own) ∙ held-none current′ n none)
 
 pub pair-deleted :
-  (n : Name) (current synced current′ synced′ : Bytes) (k : ℕ) → Done delete n current current′ → First-slot (named n) current (Some k) → Settled current′ synced k synced′ → Pair-done delete n current synced current′ synced′
+    (n : Name) (current synced current′ synced′ : Bytes) (k : ℕ) → Done delete n current current′ → First-slot (named n) current (Some k) → Settled current′ synced k synced′ → Pair-done delete n current synced current′ synced′
 pair-deleted n current synced current′ synced′ k done found settled =
     record {
       done = done;
       own = backed-absent current′ synced′ n (done .own);
-      others = λ m ne. backed-moved delete n m current synced′ current′ done (λ t. ne) ∙ backed-settled current synced synced′ n m k ne (found .1) (settled .there) }
+      others = λ m ne. backed-moved delete n m current synced′ current′ done (λ t. ne) ∙ backed-settled current synced synced′ n m k ne (found .1) (settled .there);
+    }

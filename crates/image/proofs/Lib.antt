@@ -5,3 +5,5 @@ pub mod Slices
 pub mod Files
 pub mod Freeing
 pub mod Backed
+pub mod Mixing
+pub mod Keeping

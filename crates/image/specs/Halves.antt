@@ -3,8 +3,8 @@
 use mathlib.Core.Path.{_≡_}
 use mathlib.Core.Bool.{cond}
 use mathlib.Core.List.{[], map}
-use Prim.Native.Nat.{ℕ, _%_, _≤_, _<_, max}
-use lib.Dec.{eqb}
+use Prim.Native.Nat.{ℕ, _+_, _%_, _≤_, _<_, max}
+use lib.Dec.{eqb, ltb}
 use lib.ListN.{length, getD, take}
 use Rattle.std.specs.Iters.{counting}
 use Rattle.std.specs.declared.option.Option.{Option}
@@ -82,3 +82,13 @@ pub record Kept-below (kept : Kept) (current synced : Bytes) (k : ℕ) (current�
   pub alike : (j : ℕ) → j < k → slot synced′ j ≡ slot current′ j
   pub rest : (j : ℕ) → k ≤ j → j < slot-count → slot current′ j ≡ slot current j
   pub rest-synced : (j : ℕ) → k ≤ j → j < slot-count → slot synced′ j ≡ slot synced j
+
+-- the byte at a place of two slots' mixed files, by the files' lengths
+abbrev pub mixed-byte : Bytes → Bytes → ℕ → ℕ → ℕ → ℕ
+mixed-byte current synced length other i = cond (eqb (i % 2) 0) (cond (ltb i length) (getD current (37 + i) 0) 0) (cond (ltb i other) (getD synced (37 + i) 0) 0)
+
+-- the first k bytes of a slot's file are mixed, and the rest of the slot is as it was
+pub record Mixed-below (current synced : Bytes) (length other k : ℕ) (current′ : Bytes) : Type 0 where
+  pub head : (i : ℕ) → i < 37 → getD current′ i 0 ≡ getD current i 0
+  pub bytes : (i : ℕ) → i < k → getD current′ (37 + i) 0 ≡ mixed-byte current synced length other i
+  pub rest : (i : ℕ) → k ≤ i → getD current′ (37 + i) 0 ≡ getD current (37 + i) 0

@@ -3,12 +3,13 @@
 // Each call on an image takes its name first for a search of the slots, tests it and then the file,
 // and does the call's work. An image holds what its bytes say, so any bytes at all are an image.
 mod empty;
-mod halves;
+pub mod halves;
+mod loss;
 mod slot;
 mod slots;
 
 pub use empty::clear;
-pub use halves::Kept;
+pub use loss::keep;
 pub use slots::SLOTS;
 pub use slots::create;
 pub use slots::delete;

@@ -17,7 +17,7 @@ pub const HEAD: usize = 37;
 const NAME_LENGTH: usize = 32;
 
 /// Where the file's length stands.
-const FILE_LENGTH: usize = 33;
+pub const FILE_LENGTH: usize = 33;
 
 /// Whether the slot is free for a file.
 pub fn is_free(slot: &[u8]) -> bool
@@ -65,7 +65,7 @@ pub fn copy_out(slot: &[u8], place: usize, buffer: &mut [u8])
 }
 
 /// Writes down how many bytes the file has.
-fn put_length(slot: &mut [u8], length: usize)
+pub fn put_length(slot: &mut [u8], length: usize)
     requires head { ⌜ 37 ≤ count (now slot) ⌝ }
     requires small { ⌜ length < 2 ^ 32 ⌝ }
     ensures before { λ _. ⌜ take 33 (now (slot .exit)) ≡ take 33 (now (slot .entry)) ⌝ }

@@ -7,7 +7,8 @@ returns-in-Some c =
     let stored = c .in-Continue-create .ensures tt in
     record {
       paired = λ e. record { answer = stored .answer; left = pair-created (c .args .name .now) (c .args .current .now) (c .args .synced .now) _ _ (c .in-Some .k) (stored .left) (c .in-Some .ensures tt) (c .settle .ensures) };
-      unequal = λ ne. absurd (ne (c .if-current-synced .left)) }
+      unequal = λ ne. absurd (ne (c .if-current-synced .left));
+    }
 
 pub returns-in-rest : need.returns-in-rest
 returns-in-rest c =

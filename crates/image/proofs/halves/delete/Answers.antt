@@ -10,9 +10,10 @@ returns-in-Break-k c =
     let p = err-from-errBy (c .from-residual .result) (c .from-residual .ensures .1) in
     let why = c .in-Break-k .ensures tt in
     rw (p .1, p .2)
-      (record {
-        paired = λ e. record { answer = answer-absent (c .args .current .now) (c .args .name .now) delete _ (why .0) (why .1) refl; left = (refl, refl) };
-        unequal = λ ne. absurd (ne (c .if-current-synced .left)) })
+    (record {
+      paired = λ e. record { answer = answer-absent (c .args .current .now) (c .args .name .now) delete _ (why .0) (why .1) refl; left = (refl, refl) };
+      unequal = λ ne. absurd (ne (c .if-current-synced .left));
+    })
 
 pub returns : need.returns
 returns c =
@@ -20,4 +21,5 @@ returns c =
     let stored = c .in-Continue-delete .ensures tt in
     record {
       paired = λ e. record { answer = stored .answer; left = pair-deleted (c .args .name .now) (c .args .current .now) (c .args .synced .now) _ _ (c .in-Continue-k .k) (stored .left) found (c .settle .ensures) };
-      unequal = λ ne. absurd (ne (c .if-current-synced .left)) }
+      unequal = λ ne. absurd (ne (c .if-current-synced .left));
+    }

@@ -23,8 +23,9 @@ returns c =
     let whole : length new ≡ slot-size synced = ap length is ∙ length-slot current k (c .pre .within) ∙ size in
     let where-at : at ≡ k * slot-size synced = c .start-at .ensures .is ∙ ap (λ (n : ℕ). k * n) size in
     let put : putMid at (at + slot-size current - at) synced new ≡ overwrite synced (k * slot-size synced) new =
-        ap (λ (n : ℕ). putMid at (at + n - at) synced new) size ∙ slot-write synced new k at where-at whole in
+    ap (λ (n : ℕ). putMid at (at + n - at) synced new) size ∙ slot-write synced new k at where-at whole in
     record {
       long = ap length put ∙ put-length synced k new (c .pre .within) whole;
       here = ap (λ (i : Bytes). slot i k) put ∙ slot-put synced k new (c .pre .within) whole ∙ is;
-      there = λ j lt ne. ap (λ (i : Bytes). slot i j) put ∙ slot-other synced k new (c .pre .within) whole j lt ne }
+      there = λ j lt ne. ap (λ (i : Bytes). slot i j) put ∙ slot-other synced k new (c .pre .within) whole j lt ne;
+    }
