@@ -47,7 +47,7 @@ module _ {C : Type 0} (m : Meaning C) where
   may-other c c′ n k op (Some Range) o ne s = untouched-may c c′ k o (s .2 .files k)
 
   -- what a lawful call leaves is absence only where that could remain after its work
-  gone-could : (c : C) (n : Name) (op : Op) (f : Option Bytes) → m .holds c n ≡ f → tested op n f ≡ None → worked op f ≡ None → Could op (May m c n) f None
+  pub gone-could : (c : C) (n : Name) (op : Op) (f : Option Bytes) → m .holds c n ≡ f → tested op n f ≡ None → worked op f ≡ None → Could op (May m c n) f None
   gone-could c n length-of f e t w = e ∙ w
   gone-could c n (read p k) f e t w = e ∙ w
   gone-could c n create f e t w = absurd (some-none w)

@@ -55,11 +55,11 @@ test-refusal (Some y) full x ne e = sym e
 
 -- the fault of a call, from the cause that an image gave
 module _ {V : Type 0} (call : CardCall) (origin : ℕ) where
-  blamed-cause : (x : Result V Cause) → cause-of (blamed call origin x) ≡ refusal x
+  pub blamed-cause : (x : Result V Cause) → cause-of (blamed call origin x) ≡ refusal x
   blamed-cause (Ok v) = refl
   blamed-cause (Err x) = refl
 
-  blamed-from : (x : Result V Cause) → From-origin origin (blamed call origin x)
+  pub blamed-from : (x : Result V Cause) → From-origin origin (blamed call origin x)
   blamed-from (Ok v) = tt
   blamed-from (Err x) = refl
 
@@ -73,6 +73,11 @@ image-direct {V} op n origin image image′ a r stored is =
       left = subst (λ (x : Option Cause). Left x op n image image′) (sym (blamed-cause (call-of op) origin a)) (stored .left);
       from = blamed-from (call-of op) origin a;
     })
+
+-- an image never answers power
+pub answer-not-power : (op : Op) (n : Name) (image : Bytes) → Some Power ≡ answer-of op n image → ⊥
+answer-not-power op n image e =
+    tested-not-power (name-ok n) op (held image n) (test-refusal (tested op n (held image n)) (crowded op image) Power (λ z. let y : _≡_ {A = ℕ} 0 1 = cc in omega arith) e)
 
 module _ {C : Type 0} (image : C → Bytes) (origin : C → ℕ) (c c′ : C) (op : Op) (n : Name) where
   same : image c′ ≡ image c → Same (direct image origin) c c′
@@ -95,8 +100,7 @@ module _ {C : Type 0} (image : C → Bytes) (origin : C → ℕ) (c c′ : C) (o
 
   left-called : (a : Option Cause) → a ≡ answer-of op n (image c) → Left a op n (image c) (image c′) → Called (direct image origin) c n op a c′
   left-called None e left = done-worked (no-refusal (tested op n (held (image c) n)) (crowded op (image c)) e) left
-  left-called (Some Power) e left =
-      absurd (tested-not-power (name-ok n) op (held (image c) n) (test-refusal (tested op n (held (image c) n)) (crowded op (image c)) Power (λ z. let y : _≡_ {A = ℕ} 0 1 = cc in omega arith) e))
+  left-called (Some Power) e left = absurd (answer-not-power op n (image c) e)
   left-called (Some Device) e left = (refl, same left)
   left-called (Some Absent) e left =
       (refl, test-refusal (tested op n (held (image c) n)) (crowded op (image c)) Absent (λ z. let y : _≡_ {A = ℕ} 0 1 = cc in omega arith) e, same left)

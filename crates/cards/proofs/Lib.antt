@@ -1,1 +1,5 @@
 pub mod Answered
+pub mod Calls
+pub mod Halving
+pub mod Remains
+pub mod Delays

@@ -9,6 +9,7 @@ use lib.ListN.{length, take}
 use Rattle.std.specs.declared.option.Option.{Option}
 use Rattle.std.specs.declared.option.Option.the-variants.{Some, None}
 use Rattle.std.specs.declared.result.Result.{Result}
+use Rattle.std.specs.declared.result.Result.the-variants.{Err}
 use Rattle.card.specs.declared.fault.Cause.{Cause}
 use Rattle.card.specs.declared.fault.Cause.the-variants.{Power}
 use Rattle.card.specs.declared.fault.CardFault.{CardFault}
@@ -73,7 +74,26 @@ Call None op n current synced r current′ synced′ = Paired op n current synce
 Call (Some kept) op n current synced r current′ synced′ =
     (refusal r ≡ Some Power) × (mid : Bytes) × (mid-synced : Bytes) × Before-loss kept op n current synced mid mid-synced × Kept-as kept mid mid-synced current′ synced′
 
+-- the loss of power itself
+abbrev pub Lose : {V : Type 0} → Option Kept → Bytes → Bytes → Result V Cause → Result V Cause → Bytes → Bytes → Type 0
+Lose None current synced answer r current′ synced′ = (r ≡ answer) × (current′ ≡ current) × (synced′ ≡ synced)
+Lose (Some kept) current synced answer r current′ synced′ = (r ≡ Err Power) × Kept-as kept current synced current′ synced′
+
+-- only what was synced is kept, so that the call is left undone
+abbrev pub is-undone : Option Kept → Bool
+is-undone None = false
+is-undone (Some Synced) = true
+is-undone (Some Current) = false
+is-undone (Some Mixed) = false
+
 -- what is left on after a call
 abbrev pub still-on : Option Kept → Bool
 still-on None = true
 still-on (Some kept) = false
+
+-- all that a call does to a delayed card: with power off nothing, with power on the call or the loss
+pub record Delayed {V : Type 0} (op : Op) (n : Name) (on : Bool) (cut : Option Cut) (origin : ℕ) (current synced : Bytes) (r : Result V CardFault) (on′ : Bool) (cut′ : Option Cut) (current′ synced′ : Bytes) : Type 0 where
+  pub counted : cut′ ≡ next-cut cut
+  pub from : From-origin origin r
+  pub off : on ≡ false → (on′ ≡ false) × (cause-of r ≡ Some Power) × (current′ ≡ current) × (synced′ ≡ synced)
+  pub powered : on ≡ true → (on′ ≡ still-on (lost-now cut)) × ((a : Result V Cause) × (refusal a ≡ cause-of r) × Call (lost-now cut) op n current synced a current′ synced′)

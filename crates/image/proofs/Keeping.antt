@@ -11,6 +11,7 @@ use Rattle.std.specs.declared.option.Option.the-variants.{Some, None}
 use Rattle.std.proofs.shelf.Tests.{cases-bool}
 use Rattle.card.specs.Meaning.{Bytes, Name}
 use Rattle.card.specs.Calls.{overwrite}
+use Rattle.card.proofs.Every.{some-none}
 use Rattle.image.specs.declared.halves.Kept.{Kept}
 use Rattle.image.specs.Layout.{named, free, content, slot, slot-size, held, first-of, or-else, free-slots}
 use Rattle.image.specs.Halves.{backed, kept-content, kept-of, Kept-as, Kept-below}
@@ -104,6 +105,17 @@ first-both n f a s (suc k) = by (first-both n f a s k) (cases-bool (named n (f k
     by (inl e) (inl t) =
         inr (a k, s k, ap₂ or-else (e .0) (ap (λ (u : Bool). cond u (Some (a k)) None) t), ap₂ or-else (e .1) (ap (λ (u : Bool). cond u (Some (s k)) None) t))
     by (inl e) (inr t) = inl (ap₂ or-else (e .0) (ap (λ (u : Bool). cond u (Some (a k)) None) t), ap₂ or-else (e .1) (ap (λ (u : Bool). cond u (Some (s k)) None) t))
+
+-- a present file has something in the synced half too
+pub held-backed : (current synced : Bytes) (n : Name) (a : Bytes) → held current n ≡ Some a → (s : Bytes) × (backed current synced n ≡ Some s)
+unfolding held backed
+held-backed current synced n a e = by (first-both n (slot current) (λ k. content (slot current k)) (λ k. content (slot synced k)) 16)
+  where
+    by :
+      ((held current n ≡ None) × (backed current synced n ≡ None)) ⊎ ((x : Bytes) × (y : Bytes) × (held current n ≡ Some x) × (backed current synced n ≡ Some y)) →
+      (s : Bytes) × (backed current synced n ≡ Some s)
+    by (inl none) = absurd (some-none (sym e ∙ none .0))
+    by (inr both) = (both .1, both .3)
 
 first-kept : (kept : Kept) (n : Name) (f a s : ℕ → Bytes) (k : ℕ) → first-of n f (λ j. kept-content kept (a j) (s j)) k ≡ kept-of kept (first-of n f a k) (first-of n f s k)
 unfolding first-of
