@@ -20,8 +20,8 @@ front-half this other size is = ap (λ (k : ℕ). take k this) (let e : size - 0
 
 -- the half of a slice whose front part was written
 half-written :
-  (this other ys zs : Bytes) (size : ℕ) → size ≡ min (length this) (length other) → length ys ≡ length (take (size - 0) this) → length zs ≡ length (take (size - 0) other) →
-  half (ys ++ postOf 0 (size - 0) this) (zs ++ postOf 0 (size - 0) other) ≡ ys
+    (this other ys zs : Bytes) (size : ℕ) → size ≡ min (length this) (length other) → length ys ≡ length (take (size - 0) this) → length zs ≡ length (take (size - 0) other) →
+    half (ys ++ postOf 0 (size - 0) this) (zs ++ postOf 0 (size - 0) other) ≡ ys
 half-written this other ys zs size is long long-other = ap (λ (k : ℕ). take k (ys ++ drop (size - 0) this)) shortest ∙ take-at ys (drop (size - 0) this) (length ys) refl
   where
     ys-long : length ys ≡ size
@@ -44,12 +44,12 @@ same-fronts current synced size is = simp length-take (omega (arith, is))
 
 -- a call on the front parts is a call on the halves
 pub call-halves :
-  {V : Type 0} (lost : Option Kept) (op : Op) (n : Name) (r : Result V Cause) (current synced ys zs : Bytes) (size : ℕ) → size ≡ min (length synced) (length current) →
-  length ys ≡ length (take (size - 0) current) → length zs ≡ length (take (size - 0) synced) → Call lost op n (take (size - 0) current) (take (size - 0) synced) r ys zs →
-  Call lost op n (half current synced) (half synced current) r (half (ys ++ postOf 0 (size - 0) current) (zs ++ postOf 0 (size - 0) synced)) (half (zs ++ postOf 0 (size - 0) synced) (ys ++ postOf 0 (size - 0) current))
+    {V : Type 0} (lost : Option Kept) (op : Op) (n : Name) (r : Result V Cause) (current synced ys zs : Bytes) (size : ℕ) → size ≡ min (length synced) (length current) →
+    length ys ≡ length (take (size - 0) current) → length zs ≡ length (take (size - 0) synced) → Call lost op n (take (size - 0) current) (take (size - 0) synced) r ys zs →
+    Call lost op n (half current synced) (half synced current) r (half (ys ++ postOf 0 (size - 0) current) (zs ++ postOf 0 (size - 0) synced)) (half (zs ++ postOf 0 (size - 0) synced) (ys ++ postOf 0 (size - 0) current))
 call-halves lost op n r current synced ys zs size is long long-synced call =
     let swapped : size ≡ min (length current) (length synced) = omega (arith, is) in
     subst (λ (x : Bytes). Call lost op n (half current synced) (half synced current) r (half (ys ++ postOf 0 (size - 0) current) (zs ++ postOf 0 (size - 0) synced)) x) (sym (half-written synced current zs ys size is long-synced long))
-      (subst (λ (x : Bytes). Call lost op n (half current synced) (half synced current) r x zs) (sym (half-written current synced ys zs size swapped long long-synced))
-        (subst (λ (x : Bytes). Call lost op n (half current synced) x r ys zs) (front-half synced current size is)
-          (subst (λ (x : Bytes). Call lost op n x (take (size - 0) synced) r ys zs) (front-half current synced size swapped) call)))
+    (subst (λ (x : Bytes). Call lost op n (half current synced) (half synced current) r x zs) (sym (half-written current synced ys zs size swapped long long-synced))
+    (subst (λ (x : Bytes). Call lost op n (half current synced) x r ys zs) (front-half synced current size is)
+    (subst (λ (x : Bytes). Call lost op n x (take (size - 0) synced) r ys zs) (front-half current synced size swapped) call)))

@@ -31,7 +31,7 @@ between-none : (old : Bytes) (n : ℕ) → Between old n old
 between-none old n = record { shortest = omega arith; longest = omega arith; front = λ k lt below. refl; tail = λ k lt le. inl refl }
 
 -- a mix takes a byte from the current content or leaves it
-mix-cases : (a b s : Bytes) (k : ℕ) → (getD (mixed b s) k 0 ≡ getD (mixed a s) k 0) ⊎ (getD (mixed b s) k 0 ≡ getD b k 0) 
+mix-cases : (a b s : Bytes) (k : ℕ) → (getD (mixed b s) k 0 ≡ getD (mixed a s) k 0) ⊎ (getD (mixed b s) k 0 ≡ getD b k 0)
 mix-cases a b s k = by (cases-bool (eqb (k % 2) 0))
   where
     by : (eqb (k % 2) 0 ≡ true) ⊎ (eqb (k % 2) 0 ≡ false) → (getD (mixed b s) k 0 ≡ getD (mixed a s) k 0) ⊎ (getD (mixed b s) k 0 ≡ getD b k 0)
@@ -48,11 +48,12 @@ partly-mixed a s p bytes h =
     record {
       shortest = omega (arith, length-mixed a s, length-mixed (overwrite a p bytes) s, length-overwrite a p bytes h);
       longest = omega (arith, length-mixed a s, length-mixed (overwrite a p bytes) s, length-overwrite a p bytes h);
-      each = λ k lt. each k (decLt k p) (decLt k (p + length bytes)) }
+      each = λ k lt. each k (decLt k p) (decLt k (p + length bytes));
+    }
   where
     each :
-      (k : ℕ) → Dec (k < p) → Dec (k < p + length bytes) →
-      (getD (mixed (overwrite a p bytes) s) k 0 ≡ getD (mixed a s) k 0) ⊎ ((p ≤ k) × (k < p + length bytes) × (getD (mixed (overwrite a p bytes) s) k 0 ≡ getD bytes (k - p) 0))
+        (k : ℕ) → Dec (k < p) → Dec (k < p + length bytes) →
+        (getD (mixed (overwrite a p bytes) s) k 0 ≡ getD (mixed a s) k 0) ⊎ ((p ≤ k) × (k < p + length bytes) × (getD (mixed (overwrite a p bytes) s) k 0 ≡ getD bytes (k - p) 0))
     each k (yes x) y = inl (mix-like a (overwrite a p bytes) s k (overwrite-before a p bytes h k x))
     each k (no x) (no y) = inl (mix-like a (overwrite a p bytes) s k (overwrite-after a p bytes h k (omega arith)))
     each k (no x) (yes y) =
@@ -64,7 +65,8 @@ between-mixed a s n =
       shortest = omega (arith, length-mixed a s, length-mixed (resized a n) s, length-resized a n);
       longest = omega (arith, length-mixed a s, length-mixed (resized a n) s, length-resized a n);
       front = λ k lt below. mix-like a (resized a n) s k (same k below (decLt k (length a)));
-      tail = λ k lt le. ⊎-elim inl (λ e. inr (e ∙ getD-past (resized a n) k 0 (omega (arith, length-resized a n)))) (mix-cases a (resized a n) s k) }
+      tail = λ k lt le. ⊎-elim inl (λ e. inr (e ∙ getD-past (resized a n) k 0 (omega (arith, length-resized a n)))) (mix-cases a (resized a n) s k);
+    }
   where
     same : (k : ℕ) → k < n → Dec (k < length a) → getD (resized a n) k 0 ≡ getD a k 0
     same k below (yes x) = resized-front a n k below x
@@ -92,15 +94,15 @@ only-one current synced n b same (a, is, may) = is ∙ ap Some (sym (by may))
 
 -- the same halves of a file let the same remain
 pub may-alike :
-  (current synced current′ synced′ : Bytes) (n : Name) → held current′ n ≡ held current n → backed current′ synced′ n ≡ backed current synced n → (b : Bytes) → May-remain current′ synced′ n b → May-remain current synced n b
+    (current synced current′ synced′ : Bytes) (n : Name) → held current′ n ≡ held current n → backed current′ synced′ n ≡ backed current synced n → (b : Bytes) → May-remain current′ synced′ n b → May-remain current synced n b
 may-alike current synced current′ synced′ n same backs b (a, is, may) =
     (a, sym same ∙ is, subst (λ (o : Option Bytes). (b ≡ a) ⊎ ((b ≡ bytes-or-none o) ⊎ (b ≡ mixed a (bytes-or-none o)))) backs may)
 
 -- what may remain after a lawful call's work
 module _ (n : Name) (current synced current′ synced′ : Bytes) where
   write-could :
-    (p : ℕ) (bytes a : Bytes) → held current n ≡ Some a → p ≤ length a → Pair-done (write p bytes) n current synced current′ synced′ → (b : Bytes) → May-remain current′ synced′ n b →
-    Could (write p bytes) (May-be current synced n) (Some a) (Some b)
+      (p : ℕ) (bytes a : Bytes) → held current n ≡ Some a → p ≤ length a → Pair-done (write p bytes) n current synced current′ synced′ → (b : Bytes) → May-remain current′ synced′ n b →
+      Could (write p bytes) (May-be current synced n) (Some a) (Some b)
   write-could p bytes a was inside pair b (a′, is, may) = by may
     where
       new : a′ ≡ overwrite a p bytes
@@ -118,8 +120,8 @@ module _ (n : Name) (current synced current′ synced′ : Bytes) where
       by (inr (inr e)) = (mixed a s, b, refl, (a, was, inr (inr refl)), subst (Partly (mixed a s) p bytes) (sym (e ∙ ap₂ mixed new kept)) (partly-mixed a s p bytes inside))
 
   length-could :
-    (k : ℕ) (a : Bytes) → held current n ≡ Some a → Pair-done (set-length k) n current synced current′ synced′ → (b : Bytes) → May-remain current′ synced′ n b →
-    Could (set-length k) (May-be current synced n) (Some a) (Some b)
+      (k : ℕ) (a : Bytes) → held current n ≡ Some a → Pair-done (set-length k) n current synced current′ synced′ → (b : Bytes) → May-remain current′ synced′ n b →
+      Could (set-length k) (May-be current synced n) (Some a) (Some b)
   length-could k a was pair b (a′, is, may) = by may
     where
       new : a′ ≡ resized a k
@@ -137,7 +139,7 @@ module _ (n : Name) (current synced current′ synced′ : Bytes) where
       by (inr (inr e)) = (mixed a s, b, refl, (a, was, inr (inr refl)), subst (Between (mixed a s) k) (sym (e ∙ ap₂ mixed new kept)) (between-mixed a s k))
 
   pub pair-could :
-    (op : Op) (f : Option Bytes) → held current n ≡ f → tested op n f ≡ None → Pair-done op n current synced current′ synced′ → (b : Bytes) → May-remain current′ synced′ n b → Could op (May-be current synced n) f (Some b)
+      (op : Op) (f : Option Bytes) → held current n ≡ f → tested op n f ≡ None → Pair-done op n current synced current′ synced′ → (b : Bytes) → May-remain current′ synced′ n b → Could op (May-be current synced n) f (Some b)
   pair-could length-of f is t pair b may = may-alike current synced current′ synced′ n (pair .done .own) (pair .own) b may
   pair-could (read p k) f is t pair b may = may-alike current synced current′ synced′ n (pair .done .own) (pair .own) b may
   pair-could create f is t pair b may = sym (sym (pair .done .own) ∙ only-one current′ synced′ n b (pair .own ∙ sym (pair .done .own)) may)

@@ -3,13 +3,13 @@ use mathlib.Core.Path.{_≡_}
 use mathlib.Core.Bool.{Bool, true, false, cond}
 use mathlib.Core.List.{[]}
 use mathlib.Core.Logic.{_⊎_}
-use Prim.Native.Nat.{ℕ, _-_, min}
+use Prim.Native.Nat.{ℕ, _-_, _≤_, min}
 use lib.Dec.{leb}
 use lib.ListN.{length, take}
 use Rattle.std.specs.declared.option.Option.{Option}
 use Rattle.std.specs.declared.option.Option.the-variants.{Some, None}
 use Rattle.std.specs.declared.result.Result.{Result}
-use Rattle.std.specs.declared.result.Result.the-variants.{Err}
+use Rattle.std.specs.declared.result.Result.the-variants.{Ok, Err}
 use Rattle.card.specs.declared.fault.Cause.{Cause}
 use Rattle.card.specs.declared.fault.Cause.the-variants.{Power}
 use Rattle.card.specs.declared.fault.CardFault.{CardFault}
@@ -21,6 +21,8 @@ use Rattle.image.specs.Layout.{held}
 use Rattle.image.specs.Stored.{answer-of, refusal}
 use Rattle.image.specs.Halves.{mixed, backed, Paired, Pair-left, Kept-as}
 use Rattle.cards.specs.declared.cut.Cut.{Cut}
+use Rattle.cards.specs.declared.cut.Untold.{Untold}
+use Rattle.cards.specs.declared.cut.Untold.the-variants.{NoCall, NoKept}
 use Rattle.cards.specs.Direct.{From-origin}
 
 -- the two halves of a card's image, of the length of the shorter one
@@ -97,3 +99,9 @@ pub record Delayed {V : Type 0} (op : Op) (n : Name) (on : Bool) (cut : Option C
   pub from : From-origin origin r
   pub off : on ≡ false → (on′ ≡ false) × (cause-of r ≡ Some Power) × (current′ ≡ current) × (synced′ ≡ synced)
   pub powered : on ≡ true → (on′ ≡ still-on (lost-now cut)) × ((a : Result V Cause) × (refusal a ≡ cause-of r) × Call (lost-now cut) op n current synced a current′ synced′)
+
+-- a telling of a loss is lawful from call 1 on, with what is kept from 0 to 2; an unlawful one changes nothing
+abbrev pub Told-cut : ℕ → ℕ → Option Cut → Result (Unit {0}) Untold → Option Cut → Type 0
+Told-cut call number cut (Ok u) cut′ = (1 ≤ call) × (kept : Kept) × (kept-number kept ≡ number) × (cut′ ≡ Some (record { calls = call; kept = kept }))
+Told-cut call number cut (Err NoCall) cut′ = (call ≡ 0) × (cut′ ≡ cut)
+Told-cut call number cut (Err NoKept) cut′ = (1 ≤ call) × (3 ≤ number) × (cut′ ≡ cut)

@@ -12,10 +12,12 @@ ghost use Rattle.card.specs.Calls.{Answered, Told-length, Told-bytes};
 ghost use Rattle.card.specs.Calls.Op.{length-of, read as reading, create as creating, write as writing, set-length, sync as syncing, delete as deleting};
 ghost use Rattle.image.specs.Layout.{held};
 ghost use Rattle.image.specs.Stored.{Empty};
-ghost use Rattle.cards.specs.Delayed.{delayed, half, May-remain, Delayed, kept-number};
+ghost use Rattle.cards.specs.Delayed.{delayed, half, May-remain, Delayed, Told-cut};
 use crate::cut::Cut;
+use crate::cut::Untold;
 use crate::cut::after_call;
 use crate::cut::at_call;
+use crate::cut::told;
 use crate::fault::blame;
 use crate::trimmed;
 use crate::trimmed::Half;
@@ -33,15 +35,6 @@ pub struct DelayedCard<'a> {
     on: bool,
     cut: Option<Cut>,
     origin: u8,
-}
-
-/// Why a telling of a power failure is refused.
-#[derive(Clone, Copy, PartialEq, Eq, Debug)]
-pub enum Untold {
-    /// Calls count from 1.
-    Call,
-    /// What is kept is 0, 1 or 2.
-    Kept,
 }
 
 /// The fault of a call while power is off.
@@ -77,6 +70,20 @@ impl DelayedCard<'_> {
             cut: None,
             origin,
         }
+    }
+
+    /// Tells the card to lose power at a call from now, the next being 1, and what is then kept of
+    /// each file: 0 what was synced, 1 what it holds then, 2 a mix of the two. The last lawful
+    /// telling counts.
+    pub fn lose_power_at(&mut self, call: u32, kept: u8) -> Result<(), Untold>
+        ensures told { λ r. ⌜ Told-cut call kept (now (self .entry) .cut) r (now (self .exit) .cut) ⌝ }
+        ensures current { λ _. ⌜ lent (now (self .exit) .current .bytes) ≡ lent (now (self .entry) .current .bytes) ⌝ }
+        ensures synced { λ _. ⌜ lent (now (self .exit) .synced .bytes) ≡ lent (now (self .entry) .synced .bytes) ⌝ }
+        ensures on { λ _. ⌜ now (self .exit) .on ≡ now (self .entry) .on ⌝ }
+        ensures origin { λ _. ⌜ now (self .exit) .origin ≡ now (self .entry) .origin ⌝ }
+    {
+        self.cut = Some(told(call, kept)?);
+        Ok(())
     }
 }
 
@@ -116,7 +123,14 @@ pub impl<'a> Card for DelayedCard<'a> as DelayedCardCard {
         if !self.on {
             return Err(off(CardCall::Read, self.origin));
         }
-        let answer = trimmed::read(&mut self.current, &mut self.synced, lost, name, place, buffer);
+        let answer = trimmed::read(
+            &mut self.current,
+            &mut self.synced,
+            lost,
+            name,
+            place,
+            buffer,
+        );
         self.on = lost.is_none();
         blame(answer, CardCall::Read, self.origin)
     }
@@ -146,7 +160,14 @@ pub impl<'a> Card for DelayedCard<'a> as DelayedCardCard {
         if !self.on {
             return Err(off(CardCall::Write, self.origin));
         }
-        let answer = trimmed::write(&mut self.current, &mut self.synced, lost, name, place, bytes);
+        let answer = trimmed::write(
+            &mut self.current,
+            &mut self.synced,
+            lost,
+            name,
+            place,
+            bytes,
+        );
         self.on = lost.is_none();
         blame(answer, CardCall::Write, self.origin)
     }
@@ -196,7 +217,11 @@ pub impl<'a> Card for DelayedCard<'a> as DelayedCardCard {
         blame(answer, CardCall::Delete, self.origin)
     }
 
-    fn power(&mut self) {
+    fn power(&mut self)
+        ensures switched { λ _. ⌜ Switched (delayed (λ c. c .on) (λ c. half (lent (c .current .bytes)) (lent (c .synced .bytes))) (λ c. half (lent (c .synced .bytes)) (lent (c .current .bytes))) (λ c. c .origin)) (now (self .entry)) (now (self .exit)) ⌝ }
+        ensures cut { λ _. ⌜ now (self .exit) .cut ≡ now (self .entry) .cut ⌝ }
+        ensures origin { λ _. ⌜ now (self .exit) .origin ≡ now (self .entry) .origin ⌝ }
+    {
         self.on = true;
     }
 

@@ -6,8 +6,10 @@ mod fault;
 mod trimmed;
 mod work;
 
+pub use cut::Untold;
+pub use cut::UntoldDebug;
+pub use cut::UntoldPartialEq;
 pub use delayed::DelayedCard;
 pub use delayed::DelayedCardCard;
-pub use delayed::Untold;
 pub use direct::DirectCard;
 pub use direct::DirectCardCard;

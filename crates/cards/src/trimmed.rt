@@ -18,53 +18,133 @@ pub struct Half<'a> {
     pub bytes: &'a mut [u8],
 }
 
-pub fn write(current: &mut Half, synced: &mut Half, lost: Option<Kept>, name: &[u8], place: u32, bytes: &[u8]) -> Result<(), Cause>
+pub fn write(
+    current: &mut Half,
+    synced: &mut Half,
+    lost: Option<Kept>,
+    name: &[u8],
+    place: u32,
+    bytes: &[u8],
+) -> Result<(), Cause>
     ensures { λ r. ⌜ Call lost (writing place (now (bytes .entry))) (now (name .entry)) (half (lent (now (current .entry) .bytes)) (lent (now (synced .entry) .bytes))) (half (lent (now (synced .entry) .bytes)) (lent (now (current .entry) .bytes))) r (half (lent (now (current .exit) .bytes)) (lent (now (synced .exit) .bytes))) (half (lent (now (synced .exit) .bytes)) (lent (now (current .exit) .bytes))) ⌝ }
 {
     let size = synced.bytes.len().min(current.bytes.len());
-    work::write(&mut current.bytes[0..size], &mut synced.bytes[0..size], lost, name, place, bytes)
+    work::write(
+        &mut current.bytes[0..size],
+        &mut synced.bytes[0..size],
+        lost,
+        name,
+        place,
+        bytes,
+    )
 }
 
-pub fn create(current: &mut Half, synced: &mut Half, lost: Option<Kept>, name: &[u8]) -> Result<(), Cause>
+pub fn create(
+    current: &mut Half,
+    synced: &mut Half,
+    lost: Option<Kept>,
+    name: &[u8],
+) -> Result<(), Cause>
     ensures { λ r. ⌜ Call lost creating (now (name .entry)) (half (lent (now (current .entry) .bytes)) (lent (now (synced .entry) .bytes))) (half (lent (now (synced .entry) .bytes)) (lent (now (current .entry) .bytes))) r (half (lent (now (current .exit) .bytes)) (lent (now (synced .exit) .bytes))) (half (lent (now (synced .exit) .bytes)) (lent (now (current .exit) .bytes))) ⌝ }
 {
     let size = synced.bytes.len().min(current.bytes.len());
-    work::create(&mut current.bytes[0..size], &mut synced.bytes[0..size], lost, name)
+    work::create(
+        &mut current.bytes[0..size],
+        &mut synced.bytes[0..size],
+        lost,
+        name,
+    )
 }
 
-pub fn set_length(current: &mut Half, synced: &mut Half, lost: Option<Kept>, name: &[u8], length: u32) -> Result<(), Cause>
+pub fn set_length(
+    current: &mut Half,
+    synced: &mut Half,
+    lost: Option<Kept>,
+    name: &[u8],
+    length: u32,
+) -> Result<(), Cause>
     ensures { λ r. ⌜ Call lost (set-length length) (now (name .entry)) (half (lent (now (current .entry) .bytes)) (lent (now (synced .entry) .bytes))) (half (lent (now (synced .entry) .bytes)) (lent (now (current .entry) .bytes))) r (half (lent (now (current .exit) .bytes)) (lent (now (synced .exit) .bytes))) (half (lent (now (synced .exit) .bytes)) (lent (now (current .exit) .bytes))) ⌝ }
 {
     let size = synced.bytes.len().min(current.bytes.len());
-    work::set_length(&mut current.bytes[0..size], &mut synced.bytes[0..size], lost, name, length)
+    work::set_length(
+        &mut current.bytes[0..size],
+        &mut synced.bytes[0..size],
+        lost,
+        name,
+        length,
+    )
 }
 
-pub fn sync(current: &mut Half, synced: &mut Half, lost: Option<Kept>, name: &[u8]) -> Result<(), Cause>
+pub fn sync(
+    current: &mut Half,
+    synced: &mut Half,
+    lost: Option<Kept>,
+    name: &[u8],
+) -> Result<(), Cause>
     ensures { λ r. ⌜ Call lost syncing (now (name .entry)) (half (lent (now (current .entry) .bytes)) (lent (now (synced .entry) .bytes))) (half (lent (now (synced .entry) .bytes)) (lent (now (current .entry) .bytes))) r (half (lent (now (current .exit) .bytes)) (lent (now (synced .exit) .bytes))) (half (lent (now (synced .exit) .bytes)) (lent (now (current .exit) .bytes))) ⌝ }
 {
     let size = synced.bytes.len().min(current.bytes.len());
-    work::sync(&mut current.bytes[0..size], &mut synced.bytes[0..size], lost, name)
+    work::sync(
+        &mut current.bytes[0..size],
+        &mut synced.bytes[0..size],
+        lost,
+        name,
+    )
 }
 
-pub fn delete(current: &mut Half, synced: &mut Half, lost: Option<Kept>, name: &[u8]) -> Result<(), Cause>
+pub fn delete(
+    current: &mut Half,
+    synced: &mut Half,
+    lost: Option<Kept>,
+    name: &[u8],
+) -> Result<(), Cause>
     ensures { λ r. ⌜ Call lost deleting (now (name .entry)) (half (lent (now (current .entry) .bytes)) (lent (now (synced .entry) .bytes))) (half (lent (now (synced .entry) .bytes)) (lent (now (current .entry) .bytes))) r (half (lent (now (current .exit) .bytes)) (lent (now (synced .exit) .bytes))) (half (lent (now (synced .exit) .bytes)) (lent (now (current .exit) .bytes))) ⌝ }
 {
     let size = synced.bytes.len().min(current.bytes.len());
-    work::delete(&mut current.bytes[0..size], &mut synced.bytes[0..size], lost, name)
+    work::delete(
+        &mut current.bytes[0..size],
+        &mut synced.bytes[0..size],
+        lost,
+        name,
+    )
 }
 
-pub fn length(current: &mut Half, synced: &mut Half, lost: Option<Kept>, name: &[u8]) -> Result<Option<u32>, Cause>
+pub fn length(
+    current: &mut Half,
+    synced: &mut Half,
+    lost: Option<Kept>,
+    name: &[u8],
+) -> Result<Option<u32>, Cause>
     ensures call { λ r. ⌜ Call lost length-of (now (name .entry)) (half (lent (now (current .entry) .bytes)) (lent (now (synced .entry) .bytes))) (half (lent (now (synced .entry) .bytes)) (lent (now (current .entry) .bytes))) r (half (lent (now (current .exit) .bytes)) (lent (now (synced .exit) .bytes))) (half (lent (now (synced .exit) .bytes)) (lent (now (current .exit) .bytes))) ⌝ }
     ensures told { λ r. ⌜ made r (λ told. told ≡ length-told (held (half (lent (now (current .entry) .bytes)) (lent (now (synced .entry) .bytes))) (now (name .entry)))) ⌝ }
 {
     let size = synced.bytes.len().min(current.bytes.len());
-    work::length(&mut current.bytes[0..size], &mut synced.bytes[0..size], lost, name)
+    work::length(
+        &mut current.bytes[0..size],
+        &mut synced.bytes[0..size],
+        lost,
+        name,
+    )
 }
 
-pub fn read(current: &mut Half, synced: &mut Half, lost: Option<Kept>, name: &[u8], place: u32, buffer: &mut [u8]) -> Result<(), Cause>
+pub fn read(
+    current: &mut Half,
+    synced: &mut Half,
+    lost: Option<Kept>,
+    name: &[u8],
+    place: u32,
+    buffer: &mut [u8],
+) -> Result<(), Cause>
     ensures call { λ r. ⌜ Call lost (reading place (count (now (buffer .entry)))) (now (name .entry)) (half (lent (now (current .entry) .bytes)) (lent (now (synced .entry) .bytes))) (half (lent (now (synced .entry) .bytes)) (lent (now (current .entry) .bytes))) r (half (lent (now (current .exit) .bytes)) (lent (now (synced .exit) .bytes))) (half (lent (now (synced .exit) .bytes)) (lent (now (current .exit) .bytes))) ⌝ }
     ensures told { λ r. ⌜ Read-into (held (half (lent (now (current .entry) .bytes)) (lent (now (synced .entry) .bytes))) (now (name .entry))) place (now (buffer .entry)) r (now (buffer .exit)) ⌝ }
 {
     let size = synced.bytes.len().min(current.bytes.len());
-    work::read(&mut current.bytes[0..size], &mut synced.bytes[0..size], lost, name, place, buffer)
+    work::read(
+        &mut current.bytes[0..size],
+        &mut synced.bytes[0..size],
+        lost,
+        name,
+        place,
+        buffer,
+    )
 }

@@ -14,7 +14,12 @@ use image::halves;
 use image::halves::Kept;
 
 /// Loses power if that was told, and answers so.
-fn lose<T: Drop>(current: &mut [u8], synced: &mut [u8], lost: Option<Kept>, answer: Result<T, Cause>) -> Result<T, Cause>
+fn lose<T: Drop>(
+    current: &mut [u8],
+    synced: &mut [u8],
+    lost: Option<Kept>,
+    answer: Result<T, Cause>,
+) -> Result<T, Cause>
     requires { ⌜ count (now current) ≡ count (now synced) ⌝ }
     ensures { λ r. ⌜ Lose lost (now (current .entry)) (now (synced .entry)) answer r (now (current .exit)) (now (synced .exit)) ⌝ }
 {
@@ -37,7 +42,14 @@ fn undone(lost: Option<Kept>) -> bool
     }
 }
 
-pub fn write(current: &mut [u8], synced: &mut [u8], lost: Option<Kept>, name: &[u8], place: u32, bytes: &[u8]) -> Result<(), Cause>
+pub fn write(
+    current: &mut [u8],
+    synced: &mut [u8],
+    lost: Option<Kept>,
+    name: &[u8],
+    place: u32,
+    bytes: &[u8],
+) -> Result<(), Cause>
     requires { ⌜ count (now current) ≡ count (now synced) ⌝ }
     ensures { λ r. ⌜ Call lost (writing place (now (bytes .entry))) (now (name .entry)) (now (current .entry)) (now (synced .entry)) r (now (current .exit)) (now (synced .exit)) ⌝ }
 {
@@ -48,7 +60,12 @@ pub fn write(current: &mut [u8], synced: &mut [u8], lost: Option<Kept>, name: &[
     lose(current, synced, lost, answer)
 }
 
-pub fn create(current: &mut [u8], synced: &mut [u8], lost: Option<Kept>, name: &[u8]) -> Result<(), Cause>
+pub fn create(
+    current: &mut [u8],
+    synced: &mut [u8],
+    lost: Option<Kept>,
+    name: &[u8],
+) -> Result<(), Cause>
     requires { ⌜ count (now current) ≡ count (now synced) ⌝ }
     ensures { λ r. ⌜ Call lost creating (now (name .entry)) (now (current .entry)) (now (synced .entry)) r (now (current .exit)) (now (synced .exit)) ⌝ }
 {
@@ -59,7 +76,13 @@ pub fn create(current: &mut [u8], synced: &mut [u8], lost: Option<Kept>, name: &
     lose(current, synced, lost, answer)
 }
 
-pub fn set_length(current: &mut [u8], synced: &mut [u8], lost: Option<Kept>, name: &[u8], length: u32) -> Result<(), Cause>
+pub fn set_length(
+    current: &mut [u8],
+    synced: &mut [u8],
+    lost: Option<Kept>,
+    name: &[u8],
+    length: u32,
+) -> Result<(), Cause>
     requires { ⌜ count (now current) ≡ count (now synced) ⌝ }
     ensures { λ r. ⌜ Call lost (set-length length) (now (name .entry)) (now (current .entry)) (now (synced .entry)) r (now (current .exit)) (now (synced .exit)) ⌝ }
 {
@@ -70,7 +93,12 @@ pub fn set_length(current: &mut [u8], synced: &mut [u8], lost: Option<Kept>, nam
     lose(current, synced, lost, answer)
 }
 
-pub fn sync(current: &mut [u8], synced: &mut [u8], lost: Option<Kept>, name: &[u8]) -> Result<(), Cause>
+pub fn sync(
+    current: &mut [u8],
+    synced: &mut [u8],
+    lost: Option<Kept>,
+    name: &[u8],
+) -> Result<(), Cause>
     requires { ⌜ count (now current) ≡ count (now synced) ⌝ }
     ensures { λ r. ⌜ Call lost syncing (now (name .entry)) (now (current .entry)) (now (synced .entry)) r (now (current .exit)) (now (synced .exit)) ⌝ }
 {
@@ -81,7 +109,12 @@ pub fn sync(current: &mut [u8], synced: &mut [u8], lost: Option<Kept>, name: &[u
     lose(current, synced, lost, answer)
 }
 
-pub fn delete(current: &mut [u8], synced: &mut [u8], lost: Option<Kept>, name: &[u8]) -> Result<(), Cause>
+pub fn delete(
+    current: &mut [u8],
+    synced: &mut [u8],
+    lost: Option<Kept>,
+    name: &[u8],
+) -> Result<(), Cause>
     requires { ⌜ count (now current) ≡ count (now synced) ⌝ }
     ensures { λ r. ⌜ Call lost deleting (now (name .entry)) (now (current .entry)) (now (synced .entry)) r (now (current .exit)) (now (synced .exit)) ⌝ }
 {
@@ -93,7 +126,12 @@ pub fn delete(current: &mut [u8], synced: &mut [u8], lost: Option<Kept>, name: &
 }
 
 /// Tells a length, unless power is lost; a look has no other work to do.
-pub fn length(current: &mut [u8], synced: &mut [u8], lost: Option<Kept>, name: &[u8]) -> Result<Option<u32>, Cause>
+pub fn length(
+    current: &mut [u8],
+    synced: &mut [u8],
+    lost: Option<Kept>,
+    name: &[u8],
+) -> Result<Option<u32>, Cause>
     requires { ⌜ count (now current) ≡ count (now synced) ⌝ }
     ensures call { λ r. ⌜ Call lost length-of (now (name .entry)) (now (current .entry)) (now (synced .entry)) r (now (current .exit)) (now (synced .exit)) ⌝ }
     ensures told { λ r. ⌜ made r (λ told. told ≡ length-told (held (now (current .entry)) (now (name .entry)))) ⌝ }
@@ -108,7 +146,14 @@ pub fn length(current: &mut [u8], synced: &mut [u8], lost: Option<Kept>, name: &
 }
 
 /// Reads, unless power is lost; a refused read leaves its buffer.
-pub fn read(current: &mut [u8], synced: &mut [u8], lost: Option<Kept>, name: &[u8], place: u32, buffer: &mut [u8]) -> Result<(), Cause>
+pub fn read(
+    current: &mut [u8],
+    synced: &mut [u8],
+    lost: Option<Kept>,
+    name: &[u8],
+    place: u32,
+    buffer: &mut [u8],
+) -> Result<(), Cause>
     requires { ⌜ count (now current) ≡ count (now synced) ⌝ }
     ensures call { λ r. ⌜ Call lost (reading place (count (now (buffer .entry)))) (now (name .entry)) (now (current .entry)) (now (synced .entry)) r (now (current .exit)) (now (synced .exit)) ⌝ }
     ensures told { λ r. ⌜ Read-into (held (now (current .entry)) (now (name .entry))) place (now (buffer .entry)) r (now (buffer .exit)) ⌝ }

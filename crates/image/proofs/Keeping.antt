@@ -112,8 +112,8 @@ unfolding held backed
 held-backed current synced n a e = by (first-both n (slot current) (λ k. content (slot current k)) (λ k. content (slot synced k)) 16)
   where
     by :
-      ((held current n ≡ None) × (backed current synced n ≡ None)) ⊎ ((x : Bytes) × (y : Bytes) × (held current n ≡ Some x) × (backed current synced n ≡ Some y)) →
-      (s : Bytes) × (backed current synced n ≡ Some s)
+        ((held current n ≡ None) × (backed current synced n ≡ None)) ⊎ ((x : Bytes) × (y : Bytes) × (held current n ≡ Some x) × (backed current synced n ≡ Some y)) →
+        (s : Bytes) × (backed current synced n ≡ Some s)
     by (inl none) = absurd (some-none (sym e ∙ none .0))
     by (inr both) = (both .1, both .3)
 

@@ -20,4 +20,5 @@ returns c =
     let size : c .min-size .result ≡ min (length current) (length synced) = omega (arith, c .min-size .ensures) in
     record {
       call = call-halves (c .args .lost) length-of (c .args .name .now) (c .length .result) current synced (c .length .last .current) (c .length .last .synced) (c .min-size .result) (c .min-size .ensures) (c .length .kept .current) (c .length .kept .synced) (c .length .ensures .call);
-      told = subst (λ (x : Bytes). made (c .length .result) (λ told. told ≡ length-told (held x (c .args .name .now)))) (front-half current synced (c .min-size .result) size) (c .length .ensures .told) }
+      told = subst (λ (x : Bytes). made (c .length .result) (λ told. told ≡ length-told (held x (c .args .name .now)))) (front-half current synced (c .min-size .result) size) (c .length .ensures .told);
+    }

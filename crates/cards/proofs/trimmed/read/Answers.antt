@@ -20,4 +20,5 @@ returns c =
     let size : c .min-size .result ≡ min (length current) (length synced) = omega (arith, c .min-size .ensures) in
     record {
       call = call-halves (c .args .lost) (read (c .args .place) (length (c .args .buffer .now))) (c .args .name .now) (c .read .result) current synced (c .read .last .current) (c .read .last .synced) (c .min-size .result) (c .min-size .ensures) (c .read .kept .current) (c .read .kept .synced) (c .read .ensures .call);
-      told = subst (λ (x : Bytes). Read-into (held x (c .args .name .now)) (c .args .place) (c .args .buffer .now) (c .read .result) (c .read .last .buffer)) (front-half current synced (c .min-size .result) size) (c .read .ensures .told) }
+      told = subst (λ (x : Bytes). Read-into (held x (c .args .name .now)) (c .args .place) (c .args .buffer .now) (c .read .result) (c .read .last .buffer)) (front-half current synced (c .min-size .result) size) (c .read .ensures .told);
+    }

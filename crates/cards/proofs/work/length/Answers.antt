@@ -13,6 +13,7 @@ returns-in-None c =
     let synced = c .args .synced .now in
     record {
       call =
-        subst (λ (lost : Option Kept). Call lost length-of n current synced (c .length .result) (c .length .last .image) synced) (sym (c .in-None .is))
+          subst (λ (lost : Option Kept). Call lost length-of n current synced (c .length .result) (c .length .last .image) synced) (sym (c .in-None .is))
           (stored-paired length-of n current synced (c .length .result) _ (c .length .ensures .stored) refl (λ a b. refl));
-      told = c .length .ensures .told }
+      told = c .length .ensures .told;
+    }

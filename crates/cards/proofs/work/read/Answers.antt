@@ -14,6 +14,7 @@ returns-in-None c =
     let synced = c .args .synced .now in
     record {
       call =
-        subst (λ (lost : Option Kept). Call lost (read (c .args .place) (length (c .args .buffer .now))) n current synced (c .read .result) (c .read .last .image) synced) (sym (c .in-None .is))
+          subst (λ (lost : Option Kept). Call lost (read (c .args .place) (length (c .args .buffer .now))) n current synced (c .read .result) (c .read .last .image) synced) (sym (c .in-None .is))
           (stored-paired (read (c .args .place) (length (c .args .buffer .now))) n current synced (c .read .result) _ (c .read .ensures .stored) refl (λ a b. refl));
-      told = c .read .ensures .told }
+      told = c .read .ensures .told;
+    }
