@@ -3,3 +3,4 @@ pub mod Calls
 pub mod Halving
 pub mod Remains
 pub mod Delays
+pub mod Layers

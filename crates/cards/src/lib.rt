@@ -4,6 +4,7 @@ mod delayed;
 mod direct;
 mod fault;
 mod trimmed;
+mod trouble;
 mod work;
 
 pub use cut::Untold;
@@ -13,3 +14,6 @@ pub use delayed::DelayedCard;
 pub use delayed::DelayedCardCard;
 pub use direct::DirectCard;
 pub use direct::DirectCardCard;
+pub use trouble::TROUBLES;
+pub use trouble::TroubleLayer;
+pub use trouble::TroubleLayerCard;
