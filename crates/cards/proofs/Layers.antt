@@ -1,6 +1,6 @@
 -- A layer that passes a call on keeps the meaning of a card.
-use mathlib.Core.Path.{_≡_, refl, sym, subst, _∙_}
-use mathlib.Core.Bool.{Bool, true}
+use mathlib.Core.Path.{_≡_, sym, ap, subst, _∙_}
+use mathlib.Core.Bool.{Bool, true, false, _&&_}
 use mathlib.Core.Logic.{_⊎_, inl, inr, ⊎-elim}
 use mathlib.Core.List.{List}
 use Prim.Native.Nat.{ℕ}
@@ -8,18 +8,16 @@ use Rattle.std.specs.declared.option.Option.{Option}
 use Rattle.std.specs.declared.option.Option.the-variants.{Some, None}
 use Rattle.std.specs.declared.result.Result.{Result}
 use Rattle.std.specs.declared.result.Result.the-variants.{Ok, Err}
+use Rattle.std.proofs.shelf.Tests.{both-ways, and-from}
 use Rattle.card.specs.declared.fault.Cause.{Cause}
 use Rattle.card.specs.declared.fault.Cause.the-variants.{Power, Device, Absent, Present, Range}
 use Rattle.card.specs.declared.fault.CardFault.{CardFault}
-use Rattle.card.specs.Meaning.{Meaning, Lawful, May, Untouched, Same, Switched, Name, Bytes}
-use Rattle.card.specs.Calls.{Op, Called, Could, Worked, Lost, Answered, Fault-of, call-of, cause-of, tested}
+use Rattle.card.specs.Meaning.{Meaning, May, Untouched, Same, Switched, Name, Bytes}
+use Rattle.card.specs.Calls.{Op, Called, Could, Worked, Lost, Answered, Fault-of, cause-of}
 use Rattle.card.proofs.Weaker.{could-weaker}
 use Rattle.cards.specs.Trouble.{layered, listed, Troubled}
 
 module _ {C L : Type 0} (m : Meaning C) (below : L → C) (origin : L → ℕ) where
-  pub layered-laws : Lawful m → Lawful (layered m below origin)
-  layered-laws laws = record { kept = λ l n b e. laws .kept (below l) n b e; gone = λ l n b e r. laws .gone (below l) n b e r }
-
   module _ (l l′ : L) where
     untouched : (n : Name) → Untouched m (below l) n (below l′) → Untouched (layered m below origin) l n l′
     untouched n u = record { holds = u .holds; remains = u .remains }
@@ -67,7 +65,7 @@ module _ {C L : Type 0} (m : Meaning C) (below : L → C) (origin : L → ℕ) w
       fault (Err f) e = (e .0, inr (e .1))
 
       -- an answer from below is the layer's
-      pub layered-answered : (r : Result V CardFault) → origin l′ ≡ origin l → Answered m (below l) n op r (below l′) → Answered (layered m below origin) l n op r l′
+      layered-answered : (r : Result V CardFault) → origin l′ ≡ origin l → Answered m (below l) n op r (below l′) → Answered (layered m below origin) l n op r l′
       layered-answered r kept a =
           record {
             called = called op n (cause-of r) (a .called);
@@ -75,24 +73,16 @@ module _ {C L : Type 0} (m : Meaning C) (below : L → C) (origin : L → ℕ) w
             origins = λ o. ⊎-elim (λ e. inl (e ∙ kept)) (λ x. inr (a .origins o x));
           }
 
-      -- a call that the layer refuses
-      pub device-answered :
-          (r : Result V CardFault) → m .on (below l) ≡ true → origin l′ ≡ origin l → below l′ ≡ below l → r ≡ Err (record { cause = Device; call = call-of op; origin = origin l }) →
-          Answered (layered m below origin) l n op r l′
-      device-answered r on kept e is =
-          subst (λ (x : Result V CardFault). Answered (layered m below origin) l n op x l′) (sym is)
-          (record {
-            called = (on, stays);
-            fault = (refl, inl refl);
-            origins = λ o. ⊎-elim (λ z. inl (z ∙ kept)) (λ x. inr (subst (λ (c : C). m .origins c o) e x));
-          })
-        where
-          stays : Same (layered m below origin) l l′
-          stays =
-              record {
-                on = subst (λ (c : C). m .on c ≡ m .on (below l)) (sym e) refl;
-                files = λ k. record {
-                  holds = subst (λ (c : C). m .holds c k ≡ m .holds (below l) k) (sym e) refl;
-                  remains = λ b x. subst (λ (c : C). m .remains c k b) e x;
-                };
-              }
+      -- an answer from a card that is the one below
+      pub passed-answered : (mid : C) (r : Result V CardFault) → mid ≡ below l → origin l′ ≡ origin l → Answered m mid n op r (below l′) → Answered (layered m below origin) l n op r l′
+      passed-answered mid r e kept a = layered-answered r kept (subst (λ (x : C). Answered m x n op r (below l′)) e a)
+
+-- a call that is not refused is the card's below
+pub passed-on :
+    {C V : Type 0} (m : Meaning C) (op : Op) (n : Name) (call next : ℕ) (given : List ℕ) (origin : ℕ) (mid b b′ : C) (t : Bool) (r : Result V CardFault) →
+    t ≡ (m .on b && listed next given) → t ≡ false → call ≡ next → mid ≡ b → Answered m mid n op r b′ → Troubled m op n call given origin b r b′
+passed-on m op n call next given origin mid b b′ t r is not same e a =
+    record {
+      refused = λ on lists. absurd (both-ways t not (is ∙ and-from (m .on b) (listed next given) on (ap (λ (k : ℕ). listed k given) (sym same) ∙ lists)));
+      passed = λ _. subst (λ (x : _). Answered m x n op r b′) e a;
+    }

@@ -226,6 +226,7 @@ pub impl<'a> Card for DelayedCard<'a> as DelayedCardCard {
     }
 
     fn powered(&self) -> bool {
-        self.on
+        let DelayedCard { on, .. } = self;
+        *on
     }
 }

@@ -1,6 +1,6 @@
 // The trouble layer: over any card it refuses given calls, and passes every other call on.
 ghost use mathlib.Core.Path.{_≡_};
-ghost use mathlib.Core.Bool.{Bool, true, false};
+ghost use mathlib.Core.Bool.{Bool, true, false, _&&_};
 ghost use mathlib.Core.List.{List};
 ghost use mathlib.Core.Logic.{_⊎_};
 ghost use Prim.Native.Nat.{ℕ, _≤_, _<_};
@@ -86,6 +86,33 @@ impl<C> TroubleLayer<C> {
     }
 }
 
+/// The layer's own fault.
+fn device(call: CardCall, origin: u8) -> CardFault
+    ensures { λ r. ⌜ r ≡ record { cause = Device; call = call; origin = origin } ⌝ }
+{
+    CardFault {
+        cause: Cause::Device,
+        call,
+        origin,
+    }
+}
+
+impl<C: Card> TroubleLayer<C> {
+    /// Counts a call, and tells whether the layer refuses it: with power on, if its number is given.
+    fn troubles(&mut self) -> bool
+        ensures is { λ r. ⌜ r ≡ C·Card .on (now (self .entry) .below) && listed (next-call (now (self .entry) .calls)) (take (now (self .entry) .count) (now (self .entry) .given)) ⌝ }
+        ensures below { λ _. ⌜ now (self .exit) .below ≡ now (self .entry) .below ⌝ }
+        ensures given { λ _. ⌜ now (self .exit) .given ≡ now (self .entry) .given ⌝ }
+        ensures count { λ _. ⌜ now (self .exit) .count ≡ now (self .entry) .count ⌝ }
+        ensures calls { λ _. ⌜ now (self .exit) .calls ≡ next-call (now (self .entry) .calls) ⌝ }
+        ensures origin { λ _. ⌜ now (self .exit) .origin ≡ now (self .entry) .origin ⌝ }
+    {
+        let call = self.calls.wrapping_add(1);
+        self.calls = call;
+        self.below.powered() && is_given(&self.given, self.count, call)
+    }
+}
+
 pub impl<C: Card> Card for TroubleLayer<C> as TroubleLayerCard {
     ghost on = { λ l. C·Card .on (l .below) };
 
@@ -101,13 +128,8 @@ pub impl<C: Card> Card for TroubleLayer<C> as TroubleLayerCard {
         ensures troubled { λ r. ⌜ Troubled (record { on = C·Card .on; holds = C·Card .holds; remains = C·Card .remains; origins = C·Card .origins }) length-of (now (name .entry)) (now (self .exit) .calls) (take (now (self .entry) .count) (now (self .entry) .given)) (now (self .entry) .origin) (now (self .entry) .below) r (now (self .exit) .below) ⌝ }
         ensures layer { λ _. ⌜ (now (self .exit) .calls ≡ next-call (now (self .entry) .calls)) × (take (now (self .exit) .count) (now (self .exit) .given) ≡ take (now (self .entry) .count) (now (self .entry) .given)) × (now (self .exit) .origin ≡ now (self .entry) .origin) ⌝ }
     {
-        self.calls = self.calls.wrapping_add(1);
-        if self.below.powered() && is_given(&self.given, self.count, self.calls) {
-            return Err(CardFault {
-                cause: Cause::Device,
-                call: CardCall::Length,
-                origin: self.origin,
-            });
+        if self.troubles() {
+            return Err(device(CardCall::Length, self.origin));
         }
         self.below.length(name)
     }
@@ -118,13 +140,8 @@ pub impl<C: Card> Card for TroubleLayer<C> as TroubleLayerCard {
         ensures troubled { λ r. ⌜ Troubled (record { on = C·Card .on; holds = C·Card .holds; remains = C·Card .remains; origins = C·Card .origins }) (reading place (count (now (buffer .entry)))) (now (name .entry)) (now (self .exit) .calls) (take (now (self .entry) .count) (now (self .entry) .given)) (now (self .entry) .origin) (now (self .entry) .below) r (now (self .exit) .below) ⌝ }
         ensures layer { λ _. ⌜ (now (self .exit) .calls ≡ next-call (now (self .entry) .calls)) × (take (now (self .exit) .count) (now (self .exit) .given) ≡ take (now (self .entry) .count) (now (self .entry) .given)) × (now (self .exit) .origin ≡ now (self .entry) .origin) ⌝ }
     {
-        self.calls = self.calls.wrapping_add(1);
-        if self.below.powered() && is_given(&self.given, self.count, self.calls) {
-            return Err(CardFault {
-                cause: Cause::Device,
-                call: CardCall::Read,
-                origin: self.origin,
-            });
+        if self.troubles() {
+            return Err(device(CardCall::Read, self.origin));
         }
         self.below.read(name, place, buffer)
     }
@@ -134,13 +151,8 @@ pub impl<C: Card> Card for TroubleLayer<C> as TroubleLayerCard {
         ensures troubled { λ r. ⌜ Troubled (record { on = C·Card .on; holds = C·Card .holds; remains = C·Card .remains; origins = C·Card .origins }) creating (now (name .entry)) (now (self .exit) .calls) (take (now (self .entry) .count) (now (self .entry) .given)) (now (self .entry) .origin) (now (self .entry) .below) r (now (self .exit) .below) ⌝ }
         ensures layer { λ _. ⌜ (now (self .exit) .calls ≡ next-call (now (self .entry) .calls)) × (take (now (self .exit) .count) (now (self .exit) .given) ≡ take (now (self .entry) .count) (now (self .entry) .given)) × (now (self .exit) .origin ≡ now (self .entry) .origin) ⌝ }
     {
-        self.calls = self.calls.wrapping_add(1);
-        if self.below.powered() && is_given(&self.given, self.count, self.calls) {
-            return Err(CardFault {
-                cause: Cause::Device,
-                call: CardCall::Create,
-                origin: self.origin,
-            });
+        if self.troubles() {
+            return Err(device(CardCall::Create, self.origin));
         }
         self.below.create(name)
     }
@@ -150,13 +162,8 @@ pub impl<C: Card> Card for TroubleLayer<C> as TroubleLayerCard {
         ensures troubled { λ r. ⌜ Troubled (record { on = C·Card .on; holds = C·Card .holds; remains = C·Card .remains; origins = C·Card .origins }) (writing place (now (bytes .entry))) (now (name .entry)) (now (self .exit) .calls) (take (now (self .entry) .count) (now (self .entry) .given)) (now (self .entry) .origin) (now (self .entry) .below) r (now (self .exit) .below) ⌝ }
         ensures layer { λ _. ⌜ (now (self .exit) .calls ≡ next-call (now (self .entry) .calls)) × (take (now (self .exit) .count) (now (self .exit) .given) ≡ take (now (self .entry) .count) (now (self .entry) .given)) × (now (self .exit) .origin ≡ now (self .entry) .origin) ⌝ }
     {
-        self.calls = self.calls.wrapping_add(1);
-        if self.below.powered() && is_given(&self.given, self.count, self.calls) {
-            return Err(CardFault {
-                cause: Cause::Device,
-                call: CardCall::Write,
-                origin: self.origin,
-            });
+        if self.troubles() {
+            return Err(device(CardCall::Write, self.origin));
         }
         self.below.write(name, place, bytes)
     }
@@ -166,13 +173,8 @@ pub impl<C: Card> Card for TroubleLayer<C> as TroubleLayerCard {
         ensures troubled { λ r. ⌜ Troubled (record { on = C·Card .on; holds = C·Card .holds; remains = C·Card .remains; origins = C·Card .origins }) (set-length length) (now (name .entry)) (now (self .exit) .calls) (take (now (self .entry) .count) (now (self .entry) .given)) (now (self .entry) .origin) (now (self .entry) .below) r (now (self .exit) .below) ⌝ }
         ensures layer { λ _. ⌜ (now (self .exit) .calls ≡ next-call (now (self .entry) .calls)) × (take (now (self .exit) .count) (now (self .exit) .given) ≡ take (now (self .entry) .count) (now (self .entry) .given)) × (now (self .exit) .origin ≡ now (self .entry) .origin) ⌝ }
     {
-        self.calls = self.calls.wrapping_add(1);
-        if self.below.powered() && is_given(&self.given, self.count, self.calls) {
-            return Err(CardFault {
-                cause: Cause::Device,
-                call: CardCall::SetLength,
-                origin: self.origin,
-            });
+        if self.troubles() {
+            return Err(device(CardCall::SetLength, self.origin));
         }
         self.below.set_length(name, length)
     }
@@ -182,13 +184,8 @@ pub impl<C: Card> Card for TroubleLayer<C> as TroubleLayerCard {
         ensures troubled { λ r. ⌜ Troubled (record { on = C·Card .on; holds = C·Card .holds; remains = C·Card .remains; origins = C·Card .origins }) syncing (now (name .entry)) (now (self .exit) .calls) (take (now (self .entry) .count) (now (self .entry) .given)) (now (self .entry) .origin) (now (self .entry) .below) r (now (self .exit) .below) ⌝ }
         ensures layer { λ _. ⌜ (now (self .exit) .calls ≡ next-call (now (self .entry) .calls)) × (take (now (self .exit) .count) (now (self .exit) .given) ≡ take (now (self .entry) .count) (now (self .entry) .given)) × (now (self .exit) .origin ≡ now (self .entry) .origin) ⌝ }
     {
-        self.calls = self.calls.wrapping_add(1);
-        if self.below.powered() && is_given(&self.given, self.count, self.calls) {
-            return Err(CardFault {
-                cause: Cause::Device,
-                call: CardCall::Sync,
-                origin: self.origin,
-            });
+        if self.troubles() {
+            return Err(device(CardCall::Sync, self.origin));
         }
         self.below.sync(name)
     }
@@ -198,13 +195,8 @@ pub impl<C: Card> Card for TroubleLayer<C> as TroubleLayerCard {
         ensures troubled { λ r. ⌜ Troubled (record { on = C·Card .on; holds = C·Card .holds; remains = C·Card .remains; origins = C·Card .origins }) deleting (now (name .entry)) (now (self .exit) .calls) (take (now (self .entry) .count) (now (self .entry) .given)) (now (self .entry) .origin) (now (self .entry) .below) r (now (self .exit) .below) ⌝ }
         ensures layer { λ _. ⌜ (now (self .exit) .calls ≡ next-call (now (self .entry) .calls)) × (take (now (self .exit) .count) (now (self .exit) .given) ≡ take (now (self .entry) .count) (now (self .entry) .given)) × (now (self .exit) .origin ≡ now (self .entry) .origin) ⌝ }
     {
-        self.calls = self.calls.wrapping_add(1);
-        if self.below.powered() && is_given(&self.given, self.count, self.calls) {
-            return Err(CardFault {
-                cause: Cause::Device,
-                call: CardCall::Delete,
-                origin: self.origin,
-            });
+        if self.troubles() {
+            return Err(device(CardCall::Delete, self.origin));
         }
         self.below.delete(name)
     }

@@ -36,10 +36,7 @@ fn lose<T: Drop>(
 fn undone(lost: Option<Kept>) -> bool
     ensures { λ r. ⌜ r ≡ is-undone lost ⌝ }
 {
-    match lost {
-        Some(Kept::Synced) => true,
-        Some(Kept::Current) | Some(Kept::Mixed) | None => false,
-    }
+    matches!(lost, Some(Kept::Synced))
 }
 
 pub fn write(

@@ -1,9 +1,13 @@
-// The program: a file task on a direct card, told call by call as a table.
+// The program: a file task on a direct card, told call by call, and a short one on a delayed card,
+// cut or refused at each of its calls in turn.
+mod cuts;
 mod report;
 
 use card::Card;
 use cards::DirectCard;
 use cards::DirectCardCard;
+use cuts::cut_each;
+use cuts::trouble_each;
 use report::Report;
 use std::error::AnyError;
 
@@ -52,7 +56,9 @@ fn run(rt: &LibcRuntime) -> Result<(), AnyError> {
     let mut report = Report::begin(rt, "A direct card: 16 slots, 27 bytes for each file")?;
     keep_notes(&mut report, &mut card)?;
     keep_trace(&mut report, &mut card)?;
-    report.end()
+    report.end()?;
+    cut_each(rt)?;
+    trouble_each(rt)
 }
 
 fn main(rt: LibcRuntime) -> Result<(), AnyError> {

@@ -30,7 +30,7 @@ fn word(cause: Cause) -> &'static str {
 }
 
 /// A refusal, with its cause's number and its origin.
-fn refusal(heap: Global, fault: CardFault) -> Result<String, AnyError> {
+pub fn refusal(heap: Global, fault: CardFault) -> Result<String, AnyError> {
     let why = word(fault.cause);
     let number = fault.cause.number();
     let origin = fault.origin;
@@ -64,7 +64,7 @@ fn fetch<C: Card>(card: &mut C, name: &str, buffer: &mut [u8]) -> Option<usize> 
 }
 
 /// Each present file with what it holds, in quotes.
-fn holdings<C: Card>(heap: Global, card: &mut C) -> Result<String, AnyError> {
+pub fn holdings<C: Card>(heap: Global, card: &mut C) -> Result<String, AnyError> {
     let mut all = String::new(heap);
     for name in FILES {
         let mut buffer = [0u8; SHOWN];
