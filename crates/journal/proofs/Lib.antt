@@ -1,0 +1,6 @@
+mod Numbers
+mod Sums
+mod Pieces
+mod Taken
+mod Encoded
+mod Verdicts

@@ -1,0 +1,27 @@
+// The rollback journal of SQLite's file format within the store's limits, and the super-journal.
+//
+// Pure bytes: this crate writes journals, judges bytes, and reads sound journals in place. What is
+// done about a set of databases is decided above it. docs/FORMAT.md has the bytes as tables.
+mod header;
+mod layout;
+mod named;
+mod records;
+mod verdict;
+
+pub use layout::MAGIC;
+pub use layout::PAGE;
+pub use layout::PAGE_LIMIT;
+pub use layout::RECORD;
+pub use layout::RECORD_LIMIT;
+pub use layout::SECTOR;
+pub use layout::SUPER_PAGE;
+pub use verdict::Sound;
+pub use verdict::SoundDebug;
+pub use verdict::SoundPartialEq;
+pub use verdict::Span;
+pub use verdict::SpanDebug;
+pub use verdict::SpanPartialEq;
+pub use verdict::Verdict;
+pub use verdict::VerdictDebug;
+pub use verdict::VerdictPartialEq;
+pub use verdict::judge;
