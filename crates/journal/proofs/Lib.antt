@@ -4,3 +4,6 @@ mod Pieces
 mod Taken
 mod Encoded
 mod Verdicts
+mod Same
+mod Torn
+mod Laws

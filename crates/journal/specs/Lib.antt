@@ -1,3 +1,4 @@
 pub mod Format
 pub mod Judged
 pub mod Fronts
+pub mod Laws

@@ -1,5 +1,6 @@
 // What the bytes of a journal are found to be.
 ghost use Rattle.journal.specs.Judged.{Judged};
+ghost use Rattle.journal.specs.Laws.{Journal-laws};
 use crate::header::is_spent;
 use crate::header::length_holds;
 use crate::header::read_header;
@@ -33,9 +34,10 @@ pub enum Verdict {
     Sound(Sound),
 }
 
-/// Judges the bytes of a journal.
+/// Judges the bytes of a journal. Its contract also has the laws of such bytes.
 pub fn judge(bytes: &[u8]) -> Verdict
     ensures judged { λ r. ⌜ Judged (now (bytes .entry)) r ⌝ }
+    ensures laws { λ _. ⌜ Journal-laws ⌝ }
 {
     if is_spent(bytes) {
         return Verdict::Spent;
