@@ -7,3 +7,4 @@ mod Verdicts
 mod Same
 mod Torn
 mod Laws
+mod Filled

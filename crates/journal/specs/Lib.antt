@@ -2,3 +2,4 @@ pub mod Format
 pub mod Judged
 pub mod Fronts
 pub mod Laws
+pub mod Written

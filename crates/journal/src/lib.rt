@@ -7,6 +7,7 @@ mod layout;
 mod named;
 mod records;
 mod verdict;
+mod writer;
 
 pub use layout::MAGIC;
 pub use layout::PAGE;
@@ -25,3 +26,9 @@ pub use verdict::Verdict;
 pub use verdict::VerdictDebug;
 pub use verdict::VerdictPartialEq;
 pub use verdict::judge;
+pub use writer::Refusal;
+pub use writer::RefusalDebug;
+pub use writer::RefusalPartialEq;
+pub use writer::put_header;
+pub use writer::put_name;
+pub use writer::put_record;
