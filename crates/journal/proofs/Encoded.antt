@@ -18,7 +18,7 @@ use Rattle.card.specs.Meaning.{Bytes, Name}
 use Rattle.card.specs.Calls.{part}
 use Rattle.card.specs.Numbers.{number-at, number-bytes}
 use Rattle.card.proofs.Numbers.{number-of-bytes}
-use Rattle.journal.specs.Format.{PageRecord, Journal, Lawful-journal, Lawful-name, Octets, Ascending, Starts, header, record-bytes, records-bytes, super-bytes, encode, full, magic, checksum, total}
+use Rattle.journal.specs.Format.{PageRecord, Journal, record-of, Lawful-journal, Lawful-name, Octets, Ascending, Starts, header, record-bytes, records-bytes, super-bytes, encode, full, magic, checksum, total}
 use Rattle.journal.specs.Judged.{spent, header-right, length-right, record-right, follows, record-place, page-of, page-bytes, count-of, nonce-of, size-of}
 use Rattle.journal.specs.Fronts.{super-right}
 use Rattle.journal.proofs.Numbers.{number-drop}
@@ -56,12 +56,6 @@ some-records j ok = some (j .records) (ok .first)
     some (r ∷ rs) first = omega arith
 
 -- what each record of a list is
-abbrev nothing : PageRecord
-nothing = record { page = 0; bytes = [] }
-
-abbrev pub record-of : List PageRecord → ℕ → PageRecord
-record-of rs k = getD rs k nothing
-
 ascend-at : (size last : ℕ) (rs : List PageRecord) (k : ℕ) → Ascending size last rs → k < length rs → (record-of rs k .page ≤ size) × (length (record-of rs k .bytes) ≡ 512)
 unfolding Ascending
 ascend-at size last [] k ok lt = absurd (omega arith)

@@ -19,7 +19,7 @@ use Rattle.journal.specs.declared.verdict.Sound.{Sound as Sound-parts}
 use Rattle.journal.specs.declared.verdict.Span.{Span}
 use Rattle.journal.proofs.Encoded.{spent-full}
 use Rattle.journal.proofs.Same.{full-same}
-use Rattle.journal.proofs.Torn.{torn-count, unfinished}
+use Rattle.journal.proofs.Torn.{torn-count, unfinished, counted}
 
 spent-not : (j : Journal) (b : Bytes) → Lawful-journal j → b ≡ full j → spent b ≡ true → ⊥
 spent-not j b ok e t = both-ways _ (ap spent e ∙ spent-full j ok) t
@@ -77,4 +77,4 @@ unfolding Judged
 quiet b q v p = one-verdict b v Spent p (quiet-spent b q)
 
 pub journal-laws : Journal-laws
-journal-laws = record { one = one-verdict; round-trip = round-trip; quiet = quiet; unfinished = unfinished; torn = torn-count; same = full-same }
+journal-laws = record { one = one-verdict; round-trip = round-trip; quiet = quiet; unfinished = unfinished; counted = λ j n. counted n j; torn = torn-count; same = full-same }

@@ -8,3 +8,4 @@ mod Same
 mod Torn
 mod Laws
 mod Filled
+mod InPlace

@@ -48,6 +48,10 @@ pub record Journal : Type 0 where
   pub records : List PageRecord
   pub super : Option Name
 
+-- the record of an index, from 0
+abbrev pub record-of : List PageRecord → ℕ → PageRecord
+record-of rs k = getD rs k (record { page = 0; bytes = [] })
+
 -- one sector: what is past the numbers is zero
 unfoldable pub header : ℕ → ℕ → ℕ → Bytes
 header count nonce size =

@@ -5,7 +5,7 @@ use mathlib.Core.Logic.{_⊎_}
 use Prim.Native.Nat.{ℕ, _≤_}
 use lib.ListN.{getD}
 use Rattle.card.specs.Meaning.{Bytes}
-use Rattle.card.specs.Calls.{Partly}
+use Rattle.card.specs.Calls.{Partly, overwrite}
 use Rattle.card.specs.Numbers.{number-bytes}
 use Rattle.journal.specs.Format.{Journal, Lawful-journal, encode, full, record-limit}
 use Rattle.journal.specs.Judged.{Judged, Parts}
@@ -29,6 +29,8 @@ pub record Journal-laws : Type 0 where
   pub quiet : (b : Bytes) → Quiet b → (v : Verdict) → Judged b v → v ≡ Spent
   -- whatever remains of a write of a journal with count 0 to an empty file has no count
   pub unfinished : (j : Journal) (b : Bytes) → Partly [] 0 (encode 0 j) b → Quiet b
+  -- the count written over the count 0
+  pub counted : (j : Journal) (n : ℕ) → overwrite (encode 0 j) 8 (number-bytes n) ≡ encode n j
   -- a count torn in any way is the count 0 or the whole one
   pub torn : (j : Journal) (n : ℕ) (b : Bytes) → n ≤ record-limit → Partly (encode 0 j) 8 (number-bytes n) b → (b ≡ encode 0 j) ⊎ (b ≡ encode n j)
   -- two lawful journals with the same bytes are the same journal

@@ -3,3 +3,4 @@ pub mod Judged
 pub mod Fronts
 pub mod Laws
 pub mod Written
+pub mod Read

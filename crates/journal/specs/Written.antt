@@ -29,3 +29,6 @@ record-lawful index page bytes = ltb index record-limit && (leb 1 page && (leb p
 -- a super-journal record past so many page records
 abbrev pub name-lawful : ℕ → Name → Bool
 name-lawful count name = leb 1 count && (leb count record-limit && name-ok name)
+
+abbrev pub count-lawful : ℕ → Bool
+count-lawful count = leb count record-limit

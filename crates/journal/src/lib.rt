@@ -5,6 +5,7 @@
 mod header;
 mod layout;
 mod named;
+mod reader;
 mod records;
 mod verdict;
 mod writer;
@@ -29,6 +30,7 @@ pub use verdict::judge;
 pub use writer::Refusal;
 pub use writer::RefusalDebug;
 pub use writer::RefusalPartialEq;
+pub use writer::put_count;
 pub use writer::put_header;
 pub use writer::put_name;
 pub use writer::put_record;

@@ -9,7 +9,7 @@ ghost use Rattle.card.specs.Calls.{overwrite};
 ghost use Rattle.card.specs.Numbers.{number-bytes};
 ghost use Rattle.journal.specs.Format.{header as header-bytes, record-bytes, super-bytes, total};
 ghost use Rattle.journal.specs.Judged.{record-place as place-of};
-ghost use Rattle.journal.specs.Written.{Put, size-lawful, record-lawful, name-lawful};
+ghost use Rattle.journal.specs.Written.{Put, size-lawful, record-lawful, name-lawful, count-lawful};
 use crate::layout::BLANK;
 use crate::layout::MAGIC;
 use crate::layout::PAGE;
@@ -131,5 +131,19 @@ pub fn put_name(buffer: &mut [u8], count: u32, name: &[u8]) -> Result<(), Refusa
     put_number(buffer, place + 4 + n, n as u32);
     put_number(buffer, place + 8 + n, byte_sum(name));
     put_bytes(buffer, place + 12 + n, &MAGIC);
+    Ok(())
+}
+
+/// Puts the count into the header at the start of the buffer.
+pub fn put_count(buffer: &mut [u8], count: u32) -> Result<(), Refusal>
+    ensures { λ r. ⌜ Put (now (buffer .entry)) 8 4 (number-bytes count) (count-lawful count) r (now (buffer .exit)) ⌝ }
+{
+    if count > RECORD_LIMIT {
+        return Err(Refusal::Limit);
+    }
+    if buffer.len() < 12 {
+        return Err(Refusal::Room);
+    }
+    put_number(buffer, 8, count);
     Ok(())
 }
