@@ -9,3 +9,6 @@ mod Torn
 mod Laws
 mod Filled
 mod InPlace
+mod Ascent
+mod Sealed
+mod Whole

@@ -2,6 +2,7 @@
 //
 // Pure bytes: this crate writes journals, judges bytes, and reads sound journals in place. What is
 // done about a set of databases is decided above it. docs/FORMAT.md has the bytes as tables.
+mod filler;
 mod header;
 mod layout;
 mod named;
@@ -10,6 +11,7 @@ mod records;
 mod verdict;
 mod writer;
 
+pub use filler::fill_journal;
 pub use layout::MAGIC;
 pub use layout::PAGE;
 pub use layout::PAGE_LIMIT;

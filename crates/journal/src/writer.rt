@@ -7,7 +7,7 @@ ghost use lib.ListN.{length as count-bytes};
 ghost use Rattle.std.specs.declared.option.Option.the-variants.{Some};
 ghost use Rattle.card.specs.Calls.{overwrite};
 ghost use Rattle.card.specs.Numbers.{number-bytes};
-ghost use Rattle.journal.specs.Format.{header as header-bytes, record-bytes, super-bytes, total};
+ghost use Rattle.journal.specs.Format.{header as header-bytes, record-bytes, super-bytes, Octets};
 ghost use Rattle.journal.specs.Judged.{record-place as place-of};
 ghost use Rattle.journal.specs.Written.{Put, size-lawful, record-lawful, name-lawful, count-lawful};
 use crate::layout::BLANK;
@@ -34,7 +34,7 @@ pub enum Refusal {
 }
 
 /// Puts bytes at a place.
-fn put_bytes(buffer: &mut [u8], place: usize, bytes: &[u8])
+pub fn put_bytes(buffer: &mut [u8], place: usize, bytes: &[u8])
     requires { ⌜ place + count-bytes (now bytes) ≤ count-bytes (now buffer) ⌝ }
     ensures { λ _. ⌜ now (buffer .exit) ≡ overwrite (now (buffer .entry)) place (now (bytes .entry)) ⌝ }
 {
@@ -42,7 +42,7 @@ fn put_bytes(buffer: &mut [u8], place: usize, bytes: &[u8])
 }
 
 /// Puts a number at a place.
-fn put_number(buffer: &mut [u8], place: usize, number: u32)
+pub fn put_number(buffer: &mut [u8], place: usize, number: u32)
     requires { ⌜ place + 4 ≤ count-bytes (now buffer) ⌝ }
     ensures { λ _. ⌜ now (buffer .exit) ≡ overwrite (now (buffer .entry)) place (number-bytes number) ⌝ }
 {
@@ -50,7 +50,7 @@ fn put_number(buffer: &mut [u8], place: usize, number: u32)
 }
 
 /// Fills the first sector with a header of count 0.
-fn fill_header(buffer: &mut [u8], nonce: u32, size: u32)
+pub fn fill_header(buffer: &mut [u8], nonce: u32, size: u32)
     requires { ⌜ 512 ≤ count-bytes (now buffer) ⌝ }
     ensures { λ _. ⌜ now (buffer .exit) ≡ overwrite (now (buffer .entry)) 0 (header-bytes 0 nonce size) ⌝ }
 {
@@ -114,6 +114,21 @@ fn is_named(count: u32, name: &[u8]) -> bool
     count >= 1 && count <= RECORD_LIMIT && name.len() >= 1 && name.len() <= NAME_LIMIT
 }
 
+/// Puts a super-journal record at a place.
+pub fn fill_name(buffer: &mut [u8], place: usize, name: &[u8])
+    requires room { ⌜ place + 20 + count-bytes (now name) ≤ count-bytes (now buffer) ⌝ }
+    requires short { ⌜ count-bytes (now name) ≤ 32 ⌝ }
+    ensures put { λ _. ⌜ now (buffer .exit) ≡ overwrite (now (buffer .entry)) place (super-bytes (Some (now (name .entry)))) ⌝ }
+    ensures octets { λ _. ⌜ Octets (now (name .entry)) ⌝ }
+{
+    let n = name.len();
+    put_number(buffer, place, SUPER_PAGE);
+    put_bytes(buffer, place + 4, name);
+    put_number(buffer, place + 4 + n, n as u32);
+    put_number(buffer, place + 8 + n, byte_sum(name));
+    put_bytes(buffer, place + 12 + n, &MAGIC);
+}
+
 /// Puts the super-journal record past so many page records.
 pub fn put_name(buffer: &mut [u8], count: u32, name: &[u8]) -> Result<(), Refusal>
     ensures { λ r. ⌜ Put (now (buffer .entry)) (place-of count) (20 + count-bytes (now (name .entry))) (super-bytes (Some (now (name .entry)))) (name-lawful count (now (name .entry))) r (now (buffer .exit)) ⌝ }
@@ -122,15 +137,10 @@ pub fn put_name(buffer: &mut [u8], count: u32, name: &[u8]) -> Result<(), Refusa
         return Err(Refusal::Limit);
     }
     let place = record_place(count);
-    let n = name.len();
-    if buffer.len() < place + SUPER_EXTRA + n {
+    if buffer.len() < place + SUPER_EXTRA + name.len() {
         return Err(Refusal::Room);
     }
-    put_number(buffer, place, SUPER_PAGE);
-    put_bytes(buffer, place + 4, name);
-    put_number(buffer, place + 4 + n, n as u32);
-    put_number(buffer, place + 8 + n, byte_sum(name));
-    put_bytes(buffer, place + 12 + n, &MAGIC);
+    fill_name(buffer, place, name);
     Ok(())
 }
 
