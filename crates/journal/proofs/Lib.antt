@@ -12,3 +12,4 @@ mod InPlace
 mod Ascent
 mod Sealed
 mod Whole
+mod Names

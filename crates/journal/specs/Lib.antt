@@ -4,3 +4,4 @@ pub mod Fronts
 pub mod Laws
 pub mod Written
 pub mod Read
+pub mod Super

@@ -8,6 +8,7 @@ mod layout;
 mod named;
 mod reader;
 mod records;
+mod super_journal;
 mod verdict;
 mod writer;
 
@@ -19,6 +20,8 @@ pub use layout::RECORD;
 pub use layout::RECORD_LIMIT;
 pub use layout::SECTOR;
 pub use layout::SUPER_PAGE;
+pub use super_journal::SuperNames;
+pub use super_journal::read_names;
 pub use verdict::Sound;
 pub use verdict::SoundDebug;
 pub use verdict::SoundPartialEq;
