@@ -13,3 +13,4 @@ mod Ascent
 mod Sealed
 mod Whole
 mod Names
+mod Listed

@@ -1,7 +1,7 @@
 -- What a buffer holds after a part of a journal was put into it, and why one is not put.
 use mathlib.Core.Path.{_≡_}
 use mathlib.Core.Bool.{Bool, true, false, _&&_}
-use mathlib.Core.List.{List, [], _∷_}
+use mathlib.Core.List.{List, [], _∷_, map}
 use Prim.Native.Nat.{ℕ, suc, _+_, _≤_, _<_}
 use lib.Dec.{leb, ltb, eqb}
 use lib.ListN.{length, getD}
@@ -14,6 +14,7 @@ use Rattle.card.specs.Meaning.{Bytes, Name}
 use Rattle.card.specs.Calls.{overwrite, name-ok}
 use Rattle.journal.specs.Format.{PageRecord, Journal, Lawful-journal, encode, super-bytes, page-size, page-limit, record-limit}
 use Rattle.journal.specs.Judged.{record-place, page-bytes}
+use Rattle.journal.specs.Super.{super-journal, Lawful-names}
 use Rattle.journal.specs.declared.writer.Refusal.{Refusal}
 use Rattle.journal.specs.declared.writer.Refusal.the-variants.{Limit, Room}
 
@@ -78,3 +79,13 @@ Filled old nonce size pages name (Ok n) new =
 Filled old nonce size pages name (Err Limit) new = (made-lawful size pages name ≡ false) × (new ≡ old)
 Filled old nonce size pages name (Err Room) new =
     (made-lawful size pages name ≡ true) × (length old < record-place (length pages) + length (super-bytes name)) × (new ≡ old)
+
+-- names that are passed
+abbrev pub texts : List (RefT Bytes) → List Name
+texts rs = map (λ r. r .now) rs
+
+-- the super-journal of the names now stands at the start of the buffer, and its length is told; or why not
+abbrev pub Named : Bytes → List Name → Result ℕ Refusal → Bytes → Type 0
+Named old names (Ok n) new = Lawful-names names × (n ≡ length (super-journal names)) × (n ≤ length old) × (new ≡ overwrite old 0 (super-journal names))
+Named old names (Err Limit) new = (Lawful-names names → ⊥) × (new ≡ old)
+Named old names (Err Room) new = Lawful-names names × (length old < length (super-journal names)) × (new ≡ old)

@@ -9,6 +9,7 @@ mod named;
 mod reader;
 mod records;
 mod super_journal;
+mod super_writer;
 mod verdict;
 mod writer;
 
@@ -20,8 +21,10 @@ pub use layout::RECORD;
 pub use layout::RECORD_LIMIT;
 pub use layout::SECTOR;
 pub use layout::SUPER_PAGE;
+pub use super_journal::NAME_COUNT_LIMIT;
 pub use super_journal::SuperNames;
 pub use super_journal::read_names;
+pub use super_writer::put_names;
 pub use verdict::Sound;
 pub use verdict::SoundDebug;
 pub use verdict::SoundPartialEq;
