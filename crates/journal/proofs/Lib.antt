@@ -1,0 +1,16 @@
+mod Numbers
+mod Sums
+mod Pieces
+mod Taken
+mod Encoded
+mod Verdicts
+mod Same
+mod Torn
+mod Laws
+mod Filled
+mod InPlace
+mod Ascent
+mod Sealed
+mod Whole
+mod Names
+mod Listed

@@ -1,0 +1,44 @@
+// The rollback journal of SQLite's file format within the store's limits, and the super-journal.
+//
+// Pure bytes: this crate writes journals, judges bytes, and reads sound journals in place. What is
+// done about a set of databases is decided above it. docs/FORMAT.md has the bytes as tables.
+mod filler;
+mod header;
+mod layout;
+mod named;
+mod reader;
+mod records;
+mod super_journal;
+mod super_writer;
+mod verdict;
+mod writer;
+
+pub use filler::fill_journal;
+pub use layout::MAGIC;
+pub use layout::PAGE;
+pub use layout::PAGE_LIMIT;
+pub use layout::RECORD;
+pub use layout::RECORD_LIMIT;
+pub use layout::SECTOR;
+pub use layout::SUPER_PAGE;
+pub use super_journal::NAME_COUNT_LIMIT;
+pub use super_journal::SuperNames;
+pub use super_journal::read_names;
+pub use super_writer::put_names;
+pub use verdict::Sound;
+pub use verdict::SoundDebug;
+pub use verdict::SoundPartialEq;
+pub use verdict::Span;
+pub use verdict::SpanDebug;
+pub use verdict::SpanPartialEq;
+pub use verdict::Verdict;
+pub use verdict::VerdictDebug;
+pub use verdict::VerdictPartialEq;
+pub use verdict::judge;
+pub use writer::Refusal;
+pub use writer::RefusalDebug;
+pub use writer::RefusalPartialEq;
+pub use writer::put_count;
+pub use writer::put_header;
+pub use writer::put_name;
+pub use writer::put_record;
