@@ -14,3 +14,6 @@ mod Sealed
 mod Whole
 mod Names
 mod Listed
+mod Ran
+mod Longer
+mod Fetched

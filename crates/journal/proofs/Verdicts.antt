@@ -52,7 +52,7 @@ module _ (b : Bytes) (s : spent b ≡ false) where
           (ap (λ (c : Bytes). record-right c k) e ∙ record-full j ok k (omega (arith, first .0, ap count-of e, count-full j ok)))
 
 -- what the length test says: the bytes end with the records, or leave room for a super-journal record
-length-is : (b : Bytes) → length-right b ≡ true → (length b ≡ record-place (count-of b)) ⊎ ((record-place (count-of b) + 21 ≤ length b) × (length b ≤ record-place (count-of b) + 52))
+pub length-is : (b : Bytes) → length-right b ≡ true → (length b ≡ record-place (count-of b)) ⊎ ((record-place (count-of b) + 21 ≤ length b) × (length b ≤ record-place (count-of b) + 52))
 unfolding length-right
 length-is b r = by (or-cases (eqb (length b) end) (leb (end + 21) (length b) && leb (length b) (end + 52)) r)
   where

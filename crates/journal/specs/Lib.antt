@@ -5,3 +5,4 @@ pub mod Laws
 pub mod Written
 pub mod Read
 pub mod Super
+pub mod OnCard
