@@ -1,0 +1,5 @@
+mod Digits
+mod Members
+mod Counts
+mod Nexts
+mod Visits
