@@ -3,3 +3,4 @@ mod Members
 mod Counts
 mod Nexts
 mod Visits
+mod Stack

@@ -1,2 +1,4 @@
 pub mod Sets
 pub mod Words
+pub mod Machine
+pub mod Laws
