@@ -4,3 +4,5 @@ mod Counts
 mod Nexts
 mod Visits
 mod Stack
+mod Looks
+mod Saves

@@ -3,11 +3,20 @@
 ghost use mathlib.Core.Path.{_≡_};
 ghost use Rattle.pager.specs.Laws.{Back-law, Release-law};
 
+mod changed_page;
+mod changed_pages;
 mod page_map;
+mod saved_page;
+mod saved_pages;
 
+pub use changed_page::ChangedPage;
+pub use changed_pages::CHANGED_LIMIT;
 pub use page_map::PAGE_LIMIT;
 pub use page_map::PageMap;
 pub use page_map::is_page;
+pub use saved_page::SavedPage;
+pub use saved_page::Was;
+pub use saved_pages::SAVED_LIMIT;
 
 /// The most savepoints that stand at one time. Its contract carries the laws of the machine's
 /// savepoints: the step back to one restores what was held at its making, whatever was written,

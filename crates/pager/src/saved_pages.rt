@@ -1,0 +1,68 @@
+// The store of saved pages: 32 in all, for all savepoints together.
+ghost use mathlib.Core.Path.{_≡_};
+ghost use mathlib.Core.Bool.{Bool, true, false, cond, _&&_};
+ghost use mathlib.Core.List.{[], _∷_, _++_};
+ghost use Prim.Native.Nat.{ℕ, _+_, _<_, _≤_};
+ghost use lib.Dec.{eqb};
+ghost use lib.ListN.{length, take};
+ghost use Rattle.pager.specs.Saved.{is-saved, has, gathered};
+use crate::saved_page::SavedPage;
+use crate::saved_page::Was;
+
+/// The most pages that are saved at one time, by all savepoints.
+pub const SAVED_LIMIT: usize = 32;
+
+/// Whether the row has this page of this database, saved by this savepoint.
+fn is_saved(row: &SavedPage, level: usize, database: usize, page: u32) -> bool
+    ensures { λ r. ⌜ r ≡ (eqb (now (row .entry) .level) level && is-saved database page (now (row .entry))) ⌝ }
+{
+    row.level == level && row.database == database && row.page == page
+}
+
+/// The saved pages of all savepoints, in the order in which they were saved.
+#[derive(Clone, Copy)]
+pub struct SavedPages {
+    rows: [SavedPage; 32],
+    used: usize,
+    ghost few: { used ≤ 32 },
+}
+
+impl SavedPages {
+    /// A store with no page.
+    pub fn new() -> SavedPages
+        ensures { λ r. ⌜ r .used ≡ 0 ⌝ }
+    {
+        let blank = SavedPage {
+            level: 0,
+            database: 0,
+            page: 0,
+            was: Was::Absent,
+        };
+        SavedPages {
+            rows: [blank; 32],
+            used: 0,
+        }
+    }
+
+    /// Whether the savepoint has saved the page.
+    pub fn has(&self, level: usize, database: usize, page: u32) -> bool
+        ensures { λ r. ⌜ r ≡ has level (take (now (self .entry) .used) (now (self .entry) .rows)) database page ⌝ }
+    {
+        for i in 0..self.used {
+            if is_saved(&self.rows[i], level, database, page) {
+                return true;
+            }
+        }
+        false
+    }
+
+    /// Adds a page.
+    pub fn push(&mut self, row: SavedPage)
+        requires { ⌜ now self .used < 32 ⌝ }
+        ensures { λ _. ⌜ take (now (self .exit) .used) (now (self .exit) .rows) ≡ take (now (self .entry) .used) (now (self .entry) .rows) ++ (row ∷ []) ⌝ }
+    {
+        let n = self.used;
+        self.rows[n] = row;
+        self.used = n + 1;
+    }
+}
