@@ -6,3 +6,6 @@ mod Visits
 mod Stack
 mod Looks
 mod Saves
+mod Pages
+mod Views
+mod Keeps

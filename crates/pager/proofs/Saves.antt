@@ -45,3 +45,12 @@ has-at k rows zero d p i a b is = absurd (omega arith)
 has-at k [] (suc n) d p i a b is = absurd (omega arith)
 has-at k (row ∷ rows) (suc n) d p zero a b is = or-left _ _ is
 has-at k (row ∷ rows) (suc n) d p (suc i) a b is = or-right _ _ (has-at k rows n d p i (omega arith) (omega arith) is)
+
+pub gathered-none : (s : ℕ) → gathered s [] [] ≡ []
+unfolding gathered
+gathered-none s = refl
+
+pub gathered-end : (s : ℕ) (out rows : List SavedPage) (row : SavedPage) → gathered s out (rows ++ (row ∷ [])) ≡ added (gathered s out rows) (passed s row)
+unfolding gathered
+gathered-end s out [] row = refl
+gathered-end s out (r ∷ rows) row = gathered-end s (added out (passed s r)) rows row

@@ -4,3 +4,6 @@ pub mod Machine
 pub mod Laws
 pub mod Changed
 pub mod Saved
+pub mod Refusals
+pub mod Sound
+pub mod View

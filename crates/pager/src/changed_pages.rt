@@ -58,7 +58,7 @@ impl ChangedPages {
     }
 
     /// What the page holds, if it is changed.
-    pub fn get(&self, database: usize, page: u32) -> Option<&[u8]>
+    pub fn get(&self, database: usize, page: u32) -> Option<&[u8; 512]>
         ensures { λ r. ⌜ mapped now r ≡ look (take (now (self .entry) .used) (now (self .entry) .rows)) database page ⌝ }
     {
         let i = self.find(database, page)?;
