@@ -38,7 +38,7 @@ pub record Allowed (m : Memory) (d p long : ℕ) : Type 0 where
   pub changed : (eqb (m .changed .used) 32 && not (map-of (m .maps) d p)) ≡ false
   pub saved : (eqb (m .saved .used) 32 && to-save m d p) ≡ false
 
-some-none : {X : Type 0} (x : X) → Some x ≡ None → ⊥
+pub some-none : {X : Type 0} (x : X) → Some x ≡ None → ⊥
 some-none x e = let z : _≡_ {A = ℕ} 0 1 = cc in omega arith
 
 pass : (b : Bool) (x : Option Refusal) (r : Refusal) → cond b x (Some r) ≡ None → (b ≡ true) × (x ≡ None)
@@ -135,7 +135,7 @@ saved-room m d p long ok e = by (and-cases _ _ (ok .saved))
     by (inl u) = absurd (both-ways _ u (eq-eqb (m .saved .used) 32 e))
     by (inr u) = u
 
-from-end : (k : ℕ) (rows : List SavedPage) (row : SavedPage) (d p : ℕ) → has-from k (rows ++ (row ∷ [])) d p ≡ (has-from k rows d p || (leb k (row .level) && is-saved d p row))
+pub from-end : (k : ℕ) (rows : List SavedPage) (row : SavedPage) (d p : ℕ) → has-from k (rows ++ (row ∷ [])) d p ≡ (has-from k rows d p || (leb k (row .level) && is-saved d p row))
 unfolding has-from
 from-end k [] row d p = or-none (leb k (row .level) && is-saved d p row)
   where
@@ -176,3 +176,6 @@ sound-written f g levels d p bytes wrote sound = record { link = link; below = �
         ap (λ (l : List SavedPage). has-from (suc levels) l e q) more ∙ from-end (suc levels) (f .saved) _ e q
         ∙ ap₂ (λ (a b : Bool). a || b) (sound .below e q) (and-left _ _ (lt-leb (suc levels) levels (omega arith)))
     below e q (inr same) = ap (λ (l : List SavedPage). has-from (suc levels) l e q) (same .0) ∙ sound .below e q
+
+pub none-above : (maps : List PageMap) (changed : List ChangedPage) (saved : List SavedPage) (levels : ℕ) → ∥ Sound maps changed saved levels ∥₁ → (d p : ℕ) → has-from (suc levels) saved d p ≡ false
+none-above maps changed saved levels t d p = ∥∥₁-elim t (Bool-set _ _) (λ s. s .below d p)

@@ -9,3 +9,6 @@ mod Saves
 mod Pages
 mod Views
 mod Keeps
+mod Passes
+mod Stacks
+mod Fresh

@@ -33,11 +33,11 @@ at-ext f g d v here others = fun-ext (λ k. by k (ℕ-discrete k d))
     by k (yes e) = ap g e ∙ here ∙ sym (cond-true _ _ _ (eq-eqb k d e))
     by k (no ne) = others k ne ∙ sym (cond-false _ _ _ (ne-eqb k d ne))
 
-or-first : Option Was → Option Was → Option Was
+unfoldable pub or-first : Option Was → Option Was → Option Was
 or-first None o = o
 or-first (Some w) o = Some w
 
-first-end : (k : ℕ) (rows : List SavedPage) (row : SavedPage) (d p : ℕ) → first k (rows ++ (row ∷ [])) d p ≡ or-first (first k rows d p) (cond (leb k (row .level) && is-saved d p row) (Some (row .was)) None)
+pub first-end : (k : ℕ) (rows : List SavedPage) (row : SavedPage) (d p : ℕ) → first k (rows ++ (row ∷ [])) d p ≡ or-first (first k rows d p) (cond (leb k (row .level) && is-saved d p row) (Some (row .was)) None)
 unfolding first or-first
 first-end k [] row d p = refl
 first-end k (r ∷ rows) row d p = by (leb k (r .level) && is-saved d p r) (first-end k rows row d p)
@@ -47,7 +47,7 @@ first-end k (r ∷ rows) row d p = by (leb k (r .level) && is-saved d p r) (firs
     by false e = e
 
 -- a page that a savepoint saved has its first row at that savepoint, or at a lower one that counts
-has-first : (l k : ℕ) (rows : List SavedPage) (d p : ℕ) → k ≤ l → has l rows d p ≡ true → isSome (first k rows d p) ≡ true
+pub has-first : (l k : ℕ) (rows : List SavedPage) (d p : ℕ) → k ≤ l → has l rows d p ≡ true → isSome (first k rows d p) ≡ true
 unfolding has first
 has-first l k [] d p le is = absurd (both-ways false refl is)
 has-first l k (row ∷ rows) d p le is = by (cases-bool (saves l d p row)) (cases-bool (leb k (row .level) && is-saved d p row)) (has-first l k rows d p le)

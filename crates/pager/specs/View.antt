@@ -1,4 +1,5 @@
 -- The machine that a transaction's memory is, over what the files hold.
+use mathlib.Core.Path.{_≡_}
 use mathlib.Core.Bool.{Bool, true, false, cond, _&&_, not}
 use mathlib.Core.List.{List, [], _∷_, _++_}
 use Prim.Native.Nat.{ℕ, zero, suc, _+_, _-_, _*_}
@@ -92,6 +93,10 @@ fields m = record {
 -- the machine
 abbrev pub view : (ℕ → Bytes) → Memory → Machine
 view files m = record { held = held-now files (fields m); savepoints = stack files (fields m) (m .levels) }
+
+-- the files hold so many whole pages
+abbrev pub Stored : (ℕ → Bytes) → List ℕ → Type 0
+Stored files sizes = (d : ℕ) → length (files d) ≡ getD sizes d 0 * 512
 
 -- the page may be written: it is one of the database's, or the next one
 abbrev pub page-allowed : Memory → ℕ → ℕ → Bool

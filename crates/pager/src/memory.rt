@@ -8,6 +8,8 @@ use crate::changed_pages::ChangedPages;
 use crate::page_map::PageMap;
 use crate::saved_pages::SavedPages;
 
+mod look;
+mod savepoint;
 mod write;
 
 /// The most databases of a transaction.

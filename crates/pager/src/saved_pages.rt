@@ -69,6 +69,13 @@ impl SavedPages {
         false
     }
 
+    /// How many pages are saved.
+    pub fn count(&self) -> usize
+        ensures { λ r. ⌜ r ≡ now (self .entry) .used ⌝ }
+    {
+        self.used
+    }
+
     /// Whether the store is full.
     pub fn is_full(&self) -> bool
         ensures { λ r. ⌜ r ≡ eqb (now (self .entry) .used) 32 ⌝ }
