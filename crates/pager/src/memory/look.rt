@@ -27,6 +27,7 @@ impl Memory {
     pub fn new(count: usize, sizes: [u32; 4]) -> Memory
         ensures count { λ r. ⌜ r .count ≡ min count 4 ⌝ }
         ensures sizes { λ r. ⌜ r .sizes ≡ sizes ⌝ }
+        ensures empty { λ r. ⌜ (r .changed .used ≡ 0) × (r .saved .used ≡ 0) ⌝ }
         ensures view { λ r. ⌜ ((files : ℕ → List ℕ) → Stored files sizes → view files r ≡ cleared files) ⌝ }
     {
         Memory {
@@ -44,6 +45,7 @@ impl Memory {
     pub fn clear(&mut self, sizes: [u32; 4])
         ensures count { λ _. ⌜ now (self .exit) .count ≡ now (self .entry) .count ⌝ }
         ensures sizes { λ _. ⌜ now (self .exit) .sizes ≡ sizes ⌝ }
+        ensures empty { λ _. ⌜ (now (self .exit) .changed .used ≡ 0) × (now (self .exit) .saved .used ≡ 0) ⌝ }
         ensures view { λ _. ⌜ ((files : ℕ → List ℕ) → Stored files sizes → view files (now (self .exit)) ≡ cleared files) ⌝ }
     {
         *self = Memory::new(self.count, sizes);

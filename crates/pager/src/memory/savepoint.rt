@@ -1,7 +1,7 @@
 // Savepoints: pushing one, and releasing one with all above it.
 ghost use mathlib.Core.Path.{_≡_};
 ghost use mathlib.Core.Bool.{cond, _&&_};
-ghost use mathlib.Core.List.{List};
+ghost use mathlib.Core.List.{List, []};
 ghost use Prim.Native.Nat.{ℕ, _+_};
 ghost use lib.Dec.{eqb, leb};
 ghost use Rattle.std.specs.Vec.{made};
@@ -9,7 +9,8 @@ ghost use Rattle.std.specs.declared.option.Option.the-variants.{Some, None};
 ghost use Rattle.pager.specs.declared.refusal.Refusal.the-variants.{SavepointsFull, NoSavepoint};
 ghost use Rattle.pager.specs.Laws.{Back-law, Release-law};
 ghost use Rattle.pager.specs.Machine.{pushed, released};
-ghost use Rattle.pager.specs.View.{view, refused};
+ghost use Rattle.pager.specs.Saved.{gathered};
+ghost use Rattle.pager.specs.View.{view, fields, refused};
 use crate::memory::Memory;
 use crate::memory::SAVEPOINTS;
 use crate::refusal::Refusal;
@@ -23,6 +24,7 @@ impl Memory {
         ensures kept { λ r. ⌜ ((refused r ≡ None → ⊥) → now (self .exit) ≡ now (self .entry)) ⌝ }
         ensures number { λ r. ⌜ made r (λ k. (k ≡ now (self .entry) .levels + 1) × (now (self .exit) .levels ≡ k)) ⌝ }
         ensures done { λ r. ⌜ (refused r ≡ None → (files : ℕ → List ℕ) → view files (now (self .exit)) ≡ pushed (view files (now (self .entry)))) ⌝ }
+        ensures stores { λ _. ⌜ (now (self .exit) .changed ≡ now (self .entry) .changed) × (now (self .exit) .saved ≡ now (self .entry) .saved) ⌝ }
         ensures back { λ _. ⌜ Back-law ⌝ }
     {
         if self.levels == SAVEPOINTS {
@@ -48,6 +50,8 @@ impl Memory {
         ensures refusal { λ r. ⌜ refused r ≡ cond (leb 1 s && leb s (now (self .entry) .levels)) None (Some NoSavepoint) ⌝ }
         ensures kept { λ r. ⌜ ((refused r ≡ None → ⊥) → now (self .exit) ≡ now (self .entry)) ⌝ }
         ensures done { λ r. ⌜ (refused r ≡ None → (files : ℕ → List ℕ) → view files (now (self .exit)) ≡ released s (view files (now (self .entry)))) ⌝ }
+        ensures saved { λ r. ⌜ (refused r ≡ None → fields (now (self .exit)) .saved ≡ gathered s [] (fields (now (self .entry)) .saved)) ⌝ }
+        ensures changed { λ _. ⌜ now (self .exit) .changed ≡ now (self .entry) .changed ⌝ }
         ensures law { λ _. ⌜ Release-law ⌝ }
     {
         if !self.stands(s) {

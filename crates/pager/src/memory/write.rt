@@ -2,7 +2,7 @@
 ghost use mathlib.Core.Path.{_≡_};
 ghost use mathlib.Core.Bool.{Bool, true, false, cond, _&&_, not};
 ghost use mathlib.Core.List.{List};
-ghost use Prim.Native.Nat.{ℕ, _<_, _≤_};
+ghost use Prim.Native.Nat.{ℕ, _+_, _<_, _≤_};
 ghost use lib.Dec.{leb, eqb};
 ghost use lib.ListN.{length as count-of, getD, take};
 ghost use Rattle.std.specs.Options.{mapped, isSome};
@@ -113,6 +113,7 @@ impl Memory {
         ensures refusal { λ r. ⌜ refused r ≡ write-refusal (now (self .entry)) database page (count-of (now (bytes .entry))) ⌝ }
         ensures kept { λ r. ⌜ ((refused r ≡ None → ⊥) → now (self .exit) ≡ now (self .entry)) ⌝ }
         ensures done { λ r. ⌜ (refused r ≡ None → (files : ℕ → List ℕ) → view files (now (self .exit)) ≡ written database page (now (bytes .entry)) (view files (now (self .entry)))) ⌝ }
+        ensures used { λ r. ⌜ (refused r ≡ None → now (self .exit) .changed .used ≡ cond (map-of (now (self .entry) .maps) database page) (now (self .entry) .changed .used) (now (self .entry) .changed .used + 1)) ⌝ }
         ensures saved { λ r. ⌜ (refused r ≡ None → fields (now (self .exit)) .saved ≡ saved-first (now (self .entry)) database page) ⌝ }
     {
         if let Some(refusal) = self.write_refusal(database, page, bytes.len()) {

@@ -26,6 +26,7 @@ returns c =
     record {
       count = omega arith;
       sizes = refl;
+      empty = (c .new-2 .ensures, c .new-3 .ensures);
       view = λ files stored.
           let h =
           ap (λ (l : List ChangedPage). held-now files (record { sizes = c .args .sizes; maps = maps; changed = l; saved = []; level-sizes = [] })) changed

@@ -21,6 +21,7 @@ returns-then-self-eq-SAVEPOINTS c = record {
   kept = λ _. refl;
   number = tt;
   done = λ e. absurd (some-none _ e);
+  stores = (refl, refl);
   back = back-law;
 }
 
@@ -54,5 +55,6 @@ returns c =
           let g = with-sizes files (fields m) (m .levels) below (omega arith) in
           let s = ap (stack files g) (add-one (m .levels)) ∙ stack-pushed files (fields m) (m .levels) below (omega arith) in
           λ i. record { held = held-now files (fields m); savepoints = s i };
+      stores = (refl, refl);
       back = back-law;
     }

@@ -22,6 +22,8 @@ returns-then-not-stands c = record {
   refusal = sym (cond-false _ _ _ (sym (c .stands .ensures) ∙ c .if-not-stands .taken));
   kept = λ _. refl;
   done = λ e. absurd (some-none _ e);
+  saved = λ e. absurd (some-none _ e);
+  changed = refl;
   law = release-law;
 }
 
@@ -62,5 +64,7 @@ returns c =
       done = λ _ files.
           let st = ap (λ (l : List SavedPage). stack files (with l) (s - 1)) (c .passed-down-saved .ensures) ∙ stack-released files (fields m) s (m .levels) low high below in
           λ i. record { held = held-now files (fields m); savepoints = st i };
+      saved = λ _. c .passed-down-saved .ensures;
+      changed = refl;
       law = release-law;
     }

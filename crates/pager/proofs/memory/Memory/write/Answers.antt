@@ -1,6 +1,7 @@
 use mathlib.Core.Path.{_≡_, refl, sym, ap, _∙_}
+use mathlib.Core.Bool.{Bool, cond}
 use mathlib.Core.Logic.{∥∥₁-map}
-use Prim.Native.Nat.{ℕ, _<_}
+use Prim.Native.Nat.{ℕ, _+_, _<_}
 use native.Mathlib.Omega.{arith}
 use lib.ListN.{length, take}
 use Rattle.std.specs.declared.option.Option.the-variants.{Some, None}
@@ -46,5 +47,6 @@ returns c =
           let h = held-written files (fields m) _ (m .levels) d p bytes wrote (page-low m d p (ok .page)) (page-high m d p (ok .page)) (ok .length) long link in
           let s = stack-written files (fields m) _ (m .levels) d p bytes wrote (page-low m d p (ok .page)) (page-high m d p (ok .page)) (ok .length) long link in
           λ i. record { held = h i; savepoints = s i };
+      used = λ _. c .put .ensures .used ∙ ap (λ (b : Bool). cond b (m .changed .used) (m .changed .used + 1)) (sym link);
       saved = λ _. c .saved-first-saved .ensures;
     }
