@@ -1,0 +1,14 @@
+mod Digits
+mod Members
+mod Counts
+mod Nexts
+mod Visits
+mod Stack
+mod Looks
+mod Saves
+mod Pages
+mod Views
+mod Keeps
+mod Passes
+mod Stacks
+mod Fresh
