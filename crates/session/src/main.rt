@@ -1,6 +1,8 @@
 // The program: a file task on a direct card, told call by call, and a short one on a delayed card,
 // cut or refused at each of its calls in turn.
 mod cuts;
+mod filled;
+mod journals;
 mod report;
 
 use card::Card;
@@ -8,7 +10,11 @@ use cards::DirectCard;
 use cards::DirectCardCard;
 use cuts::cut_each;
 use cuts::trouble_each;
+use filled::print_journal;
+use journals::judge_each;
 use report::Report;
+use std::env;
+use std::fs;
 use std::error::AnyError;
 
 /// A card of 16 slots of 64 bytes: 27 bytes for each file.
@@ -58,9 +64,31 @@ fn run(rt: &LibcRuntime) -> Result<(), AnyError> {
     keep_trace(&mut report, &mut card)?;
     report.end()?;
     cut_each(rt)?;
-    trouble_each(rt)
+    trouble_each(rt)?;
+    judge_each(rt)
+}
+
+/// Does what the words ask for: nothing is the report, and `journal DATABASE [SUPER]` prints a journal
+/// of the file's pages as hex.
+fn act(rt: &LibcRuntime) -> Result<(), AnyError> {
+    let mut words = env::args(rt)?;
+    let _ = words.next();
+    let Some(word) = words.next() else {
+        return run(rt);
+    };
+    let Some(path) = words.next() else {
+        return Err("journal DATABASE [SUPER]".into());
+    };
+    if word.as_str() != "journal" {
+        return Err("journal DATABASE [SUPER]".into());
+    }
+    let pages = fs::read(rt, path.as_str())?;
+    match words.next() {
+        Some(name) => print_journal(rt, &pages, Some(name.as_bytes())),
+        None => print_journal(rt, &pages, None),
+    }
 }
 
 fn main(rt: LibcRuntime) -> Result<(), AnyError> {
-    rt.report(run(&rt))
+    rt.report(act(&rt))
 }
