@@ -1,19 +1,19 @@
-mod Numbers
-mod Sums
-mod Pieces
-mod Taken
-mod Encoded
-mod Verdicts
-mod Same
-mod Torn
-mod Laws
-mod Filled
-mod InPlace
-mod Ascent
-mod Sealed
-mod Whole
-mod Names
-mod Listed
-mod Ran
-mod Longer
-mod Fetched
+pub mod Numbers
+pub mod Sums
+pub mod Pieces
+pub mod Taken
+pub mod Encoded
+pub mod Verdicts
+pub mod Same
+pub mod Torn
+pub mod Laws
+pub mod Filled
+pub mod InPlace
+pub mod Ascent
+pub mod Sealed
+pub mod Whole
+pub mod Names
+pub mod Listed
+pub mod Ran
+pub mod Longer
+pub mod Fetched
