@@ -10,6 +10,7 @@ ghost use Rattle.std.specs.declared.option.Option.the-variants.{Some, None};
 ghost use Rattle.std.specs.declared.result.Result.the-variants.{Ok, Err};
 ghost use Rattle.pager.specs.Changed.{look};
 ghost use Rattle.pager.specs.Machine.{written};
+ghost use Rattle.pager.specs.Sets.{total};
 ghost use Rattle.pager.specs.Sound.{map-of};
 ghost use Rattle.pager.specs.View.{view, fields, page-allowed, to-save, write-refusal, was-of, saved-first, refused};
 use crate::memory::Memory;
@@ -41,7 +42,7 @@ impl Memory {
     /// Whether 32 pages are changed, and this one is not among them.
     fn lacks_changed_room(&self, database: usize, page: u32) -> bool
         requires { ⌜ database < 4 ⌝ }
-        ensures { λ r. ⌜ r ≡ (eqb (now (self .entry) .changed .used) 32 && not (map-of (now (self .entry) .maps) database page)) ⌝ }
+        ensures { λ r. ⌜ r ≡ (eqb (total (map-of (now (self .entry) .maps)) 4) 32 && not (map-of (now (self .entry) .maps) database page)) ⌝ }
     {
         self.changed.is_full() && !self.maps[database].contains(page)
     }
