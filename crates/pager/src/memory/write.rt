@@ -69,8 +69,8 @@ impl Memory {
     }
 
     /// The saved pages once the page is about to be written.
-    fn saved_first(&self, database: usize, page: u32) -> SavedPages
-        requires database { ⌜ database < 4 ⌝ }
+    fn saved_first(&self, database: usize, page: u32, was: Was) -> SavedPages
+        requires was { ⌜ was ≡ was-of (look (fields (now self) .changed) database page) (leb page (getD (now self .sizes) database 0)) ⌝ }
         requires room { ⌜ (now self .saved .used ≡ 32 → to-save (now self) database page ≡ false) ⌝ }
         ensures { λ r. ⌜ take (r .used) (r .rows) ≡ saved-first (now (self .entry)) database page ⌝ }
     {
@@ -80,7 +80,7 @@ impl Memory {
                 level: self.levels,
                 database,
                 page,
-                was: self.was(database, page),
+                was,
             });
         }
         saved
@@ -122,7 +122,8 @@ impl Memory {
         }
         let mut row = [0u8; PAGE_SIZE];
         row.copy_from_slice(bytes);
-        let saved = self.saved_first(database, page);
+        let was = self.was(database, page);
+        let saved = self.saved_first(database, page, was);
         let mut map = self.maps[database];
         map.insert(page);
         self.saved = saved;
