@@ -21,6 +21,7 @@ use Rattle.pager.specs.Sound.{Sound, map-of}
 use Rattle.pager.specs.Machine.{Machine, no-pages, cleared}
 use Rattle.pager.specs.View.{Fields, file-page, joined, page-now, held-now, stack, Stored}
 use Rattle.pager.proofs.Digits.{bit-zero}
+use Rattle.pager.proofs.Totals.{total-none}
 use Rattle.pager.proofs.Members.{page-none, page-out}
 use Rattle.pager.proofs.Pages.{joined-same}
 
@@ -57,9 +58,9 @@ maps-empty map none d p = by (cases-lt d 4)
     by (inr ge) = ap (λ (m : PageMap). pages-of (m .words) p) (getD-past (replicate 4 map) d (record { words = [] }) (omega (arith, length-replicate 4 map))) ∙ no-words p
 
 module _ (maps : List PageMap) (empty : (d p : ℕ) → map-of maps d p ≡ false) where
-  pub sound-fresh : Sound maps [] [] 0
+  pub sound-fresh : Sound maps 0 [] [] 0
   unfolding look has-from
-  sound-fresh = record { link = λ d p lt. empty d p; below = λ d p. refl }
+  sound-fresh = record { link = λ d p lt. empty d p; all = sym (total-none (map-of maps) 4 empty); below = λ d p. refl }
 
   pub view-fresh :
       (files : ℕ → Bytes) (sizes : List ℕ) (level-sizes : List (List ℕ)) → Stored files sizes →

@@ -4,6 +4,7 @@ use mathlib.Core.Bool.{Bool, true, false, cond, _&&_, _||_, not, Bool-set}
 use mathlib.Core.List.{List, [], _∷_, _++_}
 use mathlib.Core.Logic.{_⊎_, inl, inr, ∥∥₁-elim, _≢_}
 use Prim.Native.Nat.{ℕ, zero, suc, _+_, _-_, _<_, _≤_, max}
+use native.Mathlib.Nat.{ℕ-set}
 use native.Mathlib.Omega.{arith}
 use native.Mathlib.Decide.{ℕ-discrete}
 use lib.Dec.{eqb, leb, ltb}
@@ -22,20 +23,21 @@ use Rattle.pager.specs.declared.saved_page.SavedPage.{SavedPage}
 use Rattle.pager.specs.declared.saved_pages.SavedPages.{SavedPages}
 use Rattle.pager.specs.declared.refusal.Refusal.{Refusal}
 use Rattle.pager.specs.declared.refusal.Refusal.the-variants.{NoDatabase, BufferLength, Page, ChangedFull, SavedFull}
-use Rattle.pager.specs.Sets.{PageSet, including, is-page}
+use Rattle.pager.specs.Sets.{PageSet, including, is-page, total}
 use Rattle.pager.specs.Words.{pages-of}
 use Rattle.pager.specs.Changed.{look, no-row, Whole, is-row}
 use Rattle.pager.specs.Saved.{is-saved, has, has-from}
 use Rattle.pager.specs.Sound.{Sound, map-of}
 use Rattle.pager.specs.View.{Fields, fields, page-allowed, to-save, write-refusal, was-of, saved-first}
 use Rattle.pager.proofs.Views.{Wrote}
+use Rattle.pager.proofs.Totals.{total-with}
 
 -- the tests of a write that is not refused
 pub record Allowed (m : Memory) (d p long : ℕ) : Type 0 where
   pub database : d < m .count
   pub length : long ≡ 512
   pub page : page-allowed m d p ≡ true
-  pub changed : (eqb (m .changed .used) 32 && not (map-of (m .maps) d p)) ≡ false
+  pub changed : (eqb (total (map-of (m .maps)) 4) 32 && not (map-of (m .maps) d p)) ≡ false
   pub saved : (eqb (m .saved .used) 32 && to-save m d p) ≡ false
 
 pub some-none : {X : Type 0} (x : X) → Some x ≡ None → ⊥
@@ -54,7 +56,7 @@ allowed m d p long none =
     let a = pass (ltb d (m .count)) _ NoDatabase none in
     let b = pass (eqb long 512) _ BufferLength (a .1) in
     let c = pass (page-allowed m d p) _ Page (b .1) in
-    let e = pass-not (eqb (m .changed .used) 32 && not (map-of (m .maps) d p)) _ ChangedFull (c .1) in
+    let e = pass-not (eqb (total (map-of (m .maps)) 4) 32 && not (map-of (m .maps) d p)) _ ChangedFull (c .1) in
     let f = pass-not (eqb (m .saved .used) 32 && to-save m d p) _ SavedFull (e .1) in
     record { database = ltb-true d (m .count) (a .0); length = eqb-true long 512 (b .0); page = c .0; changed = e .0; saved = f .0 }
 
@@ -115,18 +117,21 @@ wrote-from m d p bytes row size map changed saved ls lm is larger mapped put sam
     by (inr u) = inr (kept ∙ cond-false _ _ _ u, had (and-cases _ _ u))
 
 -- what a sound memory keeps, one fact at a time
-pub linked : (maps : List PageMap) (changed : List ChangedPage) (saved : List SavedPage) (levels : ℕ) → ∥ Sound maps changed saved levels ∥₁ → (d p : ℕ) → d < 4 → map-of maps d p ≡ isSome (look changed d p)
-linked maps changed saved levels t d p lt = ∥∥₁-elim t (Bool-set _ _) (λ s. s .link d p lt)
+pub linked : (maps : List PageMap) (used : ℕ) (changed : List ChangedPage) (saved : List SavedPage) (levels : ℕ) → ∥ Sound maps used changed saved levels ∥₁ → (d p : ℕ) → d < 4 → map-of maps d p ≡ isSome (look changed d p)
+linked maps used changed saved levels t d p lt = ∥∥₁-elim t (Bool-set _ _) (λ s. s .link d p lt)
+
+pub in-all : (maps : List PageMap) (used : ℕ) (changed : List ChangedPage) (saved : List SavedPage) (levels : ℕ) → ∥ Sound maps used changed saved levels ∥₁ → used ≡ total (map-of maps) 4
+in-all maps used changed saved levels t = ∥∥₁-elim t (ℕ-set _ _) (λ s. s .all)
 
 -- a page that is not changed has room in the store
-pub room : (m : Memory) (d p long : ℕ) → m .count ≤ 4 → m .changed .used ≤ 32 → ∥ Sound (m .maps) (fields m .changed) (fields m .saved) (m .levels) ∥₁ → Allowed m d p long → isSome (look (fields m .changed) d p) ≡ false → m .changed .used < 32
+pub room : (m : Memory) (d p long : ℕ) → m .count ≤ 4 → m .changed .used ≤ 32 → ∥ Sound (m .maps) (m .changed .used) (fields m .changed) (fields m .saved) (m .levels) ∥₁ → Allowed m d p long → isSome (look (fields m .changed) d p) ≡ false → m .changed .used < 32
 room m d p long few most sound ok none = by (ℕ-discrete (m .changed .used) 32)
   where
     by : Dec (m .changed .used ≡ 32) → m .changed .used < 32
     by (no ne) = omega arith
     by (yes e) =
-        let out = linked (m .maps) (fields m .changed) (fields m .saved) (m .levels) sound d p (omega (arith, ok .database)) ∙ none in
-        absurd (both-ways _ (ok .changed) (and-from _ _ (eq-eqb (m .changed .used) 32 e) (ap not out)))
+        let out = linked (m .maps) (m .changed .used) (fields m .changed) (fields m .saved) (m .levels) sound d p (omega (arith, ok .database)) ∙ none in
+        absurd (both-ways _ (ok .changed) (and-from _ _ (eq-eqb (total (map-of (m .maps)) 4) 32 (sym (in-all (m .maps) (m .changed .used) (fields m .changed) (fields m .saved) (m .levels) sound) ∙ e)) (ap not out)))
 
 pub saved-room : (m : Memory) (d p long : ℕ) → Allowed m d p long → m .saved .used ≡ 32 → to-save m d p ≡ false
 saved-room m d p long ok e = by (and-cases _ _ (ok .saved))
@@ -149,8 +154,10 @@ from-end k (r ∷ rows) row d p = by (leb k (r .level) && is-saved d p r) (from-
     by false e = e
 
 -- a sound memory stays sound over a write
-pub sound-written : (f g : Fields) (levels d p : ℕ) (bytes : Bytes) → Wrote f g levels d p bytes → Sound (f .maps) (f .changed) (f .saved) levels → Sound (g .maps) (g .changed) (g .saved) levels
-sound-written f g levels d p bytes wrote sound = record { link = link; below = λ e q. below e q (wrote .saved) }
+pub sound-written :
+    (f g : Fields) (levels used more d p : ℕ) (bytes : Bytes) → Wrote f g levels d p bytes → d < 4 → is-page p ≡ true → more ≡ cond (isSome (look (f .changed) d p)) used (used + 1) →
+    Sound (f .maps) used (f .changed) (f .saved) levels → Sound (g .maps) more (g .changed) (g .saved) levels
+sound-written f g levels used more d p bytes wrote inside is grown sound = record { link = link; all = all; below = λ e q. below e q (wrote .saved) }
   where
     link : (e q : ℕ) → e < 4 → map-of (g .maps) e q ≡ isSome (look (g .changed) e q)
     link e q lt = by (ℕ-discrete e d) (ℕ-discrete q p)
@@ -168,6 +175,11 @@ sound-written f g levels d p bytes wrote sound = record { link = link; below = �
         by (no a) w =
             ap (λ (s : PageSet). s q) (wrote .maps e a) ∙ sound .link e q lt ∙ sym (ap isSome (far (and-left _ _ (ne-eqb e d a))))
 
+    all : more ≡ total (map-of (g .maps)) 4
+    all =
+        grown ∙ ap (λ (b : Bool). cond b used (used + 1)) (sym (sound .link d p inside)) ∙ ap (λ (n : ℕ). cond (map-of (f .maps) d p) n (n + 1)) (sound .all)
+        ∙ sym (total-with (map-of (f .maps)) (map-of (g .maps)) d p is (wrote .map) (wrote .maps) 4 inside)
+
     below :
         (e q : ℕ) →
         (g .saved ≡ f .saved ++ (record { level = levels; database = d; page = p; was = was-of (look (f .changed) d p) (leb p (getD (f .sizes) d 0)) } ∷ [])) ⊎ ((g .saved ≡ f .saved) × ((levels ≡ 0) ⊎ (has levels (f .saved) d p ≡ true))) →
@@ -177,5 +189,5 @@ sound-written f g levels d p bytes wrote sound = record { link = link; below = �
         ∙ ap₂ (λ (a b : Bool). a || b) (sound .below e q) (and-left _ _ (lt-leb (suc levels) levels (omega arith)))
     below e q (inr same) = ap (λ (l : List SavedPage). has-from (suc levels) l e q) (same .0) ∙ sound .below e q
 
-pub none-above : (maps : List PageMap) (changed : List ChangedPage) (saved : List SavedPage) (levels : ℕ) → ∥ Sound maps changed saved levels ∥₁ → (d p : ℕ) → has-from (suc levels) saved d p ≡ false
-none-above maps changed saved levels t d p = ∥∥₁-elim t (Bool-set _ _) (λ s. s .below d p)
+pub none-above : (maps : List PageMap) (used : ℕ) (changed : List ChangedPage) (saved : List SavedPage) (levels : ℕ) → ∥ Sound maps used changed saved levels ∥₁ → (d p : ℕ) → has-from (suc levels) saved d p ≡ false
+none-above maps used changed saved levels t d p = ∥∥₁-elim t (Bool-set _ _) (λ s. s .below d p)

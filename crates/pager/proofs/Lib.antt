@@ -8,6 +8,7 @@ mod Looks
 mod Saves
 mod Pages
 mod Views
+mod Totals
 mod Keeps
 mod Passes
 mod Stacks

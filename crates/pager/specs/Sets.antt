@@ -34,6 +34,11 @@ unfoldable pub counted : PageSet → ℕ → ℕ
 counted s zero = 0
 counted s (suc n) = counted s n + one-if (s (suc n))
 
+-- how many of the pages of the databases below n are in, by database
+unfoldable pub total : (ℕ → PageSet) → ℕ → ℕ
+total sets zero = 0
+total sets (suc n) = total sets n + counted (sets n) page-limit
+
 -- no page above this one is in
 abbrev pub None-above : PageSet → ℕ → Type 0
 None-above s after = (q : ℕ) → after < q → s q ≡ false

@@ -18,7 +18,7 @@ use Rattle.pager.specs.declared.saved_page.Was.the-variants.{Changed, Unchange
 use Rattle.pager.specs.declared.refusal.Refusal.{Refusal}
 use Rattle.pager.specs.declared.refusal.Refusal.the-variants.{NoDatabase, BufferLength, Page, ChangedFull, SavedFull}
 use Rattle.pager.specs.declared.page_map.PageMap.{PageMap}
-use Rattle.pager.specs.Sets.{PageSet}
+use Rattle.pager.specs.Sets.{PageSet, total}
 use Rattle.pager.specs.Changed.{look}
 use Rattle.pager.specs.Saved.{has, first}
 use Rattle.pager.specs.Sound.{map-of}
@@ -112,7 +112,7 @@ write-refusal m d p long =
     cond (ltb d (m .count))
     (cond (eqb long 512)
     (cond (page-allowed m d p)
-    (cond (eqb (m .changed .used) 32 && not (map-of (m .maps) d p)) (Some ChangedFull)
+    (cond (eqb (total (map-of (m .maps)) 4) 32 && not (map-of (m .maps) d p)) (Some ChangedFull)
     (cond (eqb (m .saved .used) 32 && to-save m d p) (Some SavedFull) None))
     (Some Page))
     (Some BufferLength))

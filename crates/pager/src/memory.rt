@@ -30,5 +30,5 @@ pub struct Memory {
     level_sizes: [[u32; 4]; 8],
     ghost few: { count ≤ 4 },
     ghost low: { levels ≤ 8 },
-    ghost sound: { ∥ Sound maps (take (changed .used) (changed .rows)) (take (saved .used) (saved .rows)) levels ∥₁ },
+    ghost sound: { ∥ Sound maps (changed .used) (take (changed .used) (changed .rows)) (take (saved .used) (saved .rows)) levels ∥₁ },
 }

@@ -72,8 +72,8 @@ impl PageMap {
         ensures { λ r. ⌜ r ≡ counted (pages-of (now (self .entry) .words)) 4096 ⌝ }
     {
         let mut n = 0;
-        for w in self.words.iter() {
-            n += w.count_ones();
+        for i in 0..WORDS {
+            n += self.words[i as usize].count_ones();
         }
         n
     }

@@ -10,6 +10,7 @@ ghost use Rattle.std.specs.declared.option.Option.the-variants.{Some, None};
 ghost use Rattle.std.specs.declared.result.Result.the-variants.{Ok, Err};
 ghost use Rattle.pager.specs.Changed.{look};
 ghost use Rattle.pager.specs.Machine.{written};
+ghost use Rattle.pager.specs.Sets.{total};
 ghost use Rattle.pager.specs.Sound.{map-of};
 ghost use Rattle.pager.specs.View.{view, fields, page-allowed, to-save, write-refusal, was-of, saved-first, refused};
 use crate::memory::Memory;
@@ -41,7 +42,7 @@ impl Memory {
     /// Whether 32 pages are changed, and this one is not among them.
     fn lacks_changed_room(&self, database: usize, page: u32) -> bool
         requires { ⌜ database < 4 ⌝ }
-        ensures { λ r. ⌜ r ≡ (eqb (now (self .entry) .changed .used) 32 && not (map-of (now (self .entry) .maps) database page)) ⌝ }
+        ensures { λ r. ⌜ r ≡ (eqb (total (map-of (now (self .entry) .maps)) 4) 32 && not (map-of (now (self .entry) .maps) database page)) ⌝ }
     {
         self.changed.is_full() && !self.maps[database].contains(page)
     }
@@ -68,8 +69,8 @@ impl Memory {
     }
 
     /// The saved pages once the page is about to be written.
-    fn saved_first(&self, database: usize, page: u32) -> SavedPages
-        requires database { ⌜ database < 4 ⌝ }
+    fn saved_first(&self, database: usize, page: u32, was: Was) -> SavedPages
+        requires was { ⌜ was ≡ was-of (look (fields (now self) .changed) database page) (leb page (getD (now self .sizes) database 0)) ⌝ }
         requires room { ⌜ (now self .saved .used ≡ 32 → to-save (now self) database page ≡ false) ⌝ }
         ensures { λ r. ⌜ take (r .used) (r .rows) ≡ saved-first (now (self .entry)) database page ⌝ }
     {
@@ -79,7 +80,7 @@ impl Memory {
                 level: self.levels,
                 database,
                 page,
-                was: self.was(database, page),
+                was,
             });
         }
         saved
@@ -121,7 +122,8 @@ impl Memory {
         }
         let mut row = [0u8; PAGE_SIZE];
         row.copy_from_slice(bytes);
-        let saved = self.saved_first(database, page);
+        let was = self.was(database, page);
+        let saved = self.saved_first(database, page, was);
         let mut map = self.maps[database];
         map.insert(page);
         self.saved = saved;

@@ -16,7 +16,7 @@ ghost-result c =
     let changed : take (c .new-2 .result .used) (c .new-2 .result .rows) ≡ [] = ap (λ (n : ℕ). take n (c .new-2 .result .rows)) (c .new-2 .ensures) in
     let saved : take (c .new-3 .result .used) (c .new-3 .result .rows) ≡ [] = ap (λ (n : ℕ). take n (c .new-3 .result .rows)) (c .new-3 .ensures) in
     let empty = sound-fresh maps (maps-empty (c .new .result) (c .new .ensures)) in
-    (omega arith, (omega arith, (∣ subst (λ (l : List ChangedPage). Sound maps l (take (c .new-3 .result .used) (c .new-3 .result .rows)) 0) (sym changed) (subst (λ (l : List SavedPage). Sound maps [] l 0) (sym saved) empty) ∣₁, tt)))
+    (omega arith, (omega arith, (∣ subst (λ (l : List ChangedPage). Sound maps (c .new-2 .result .used) l (take (c .new-3 .result .used) (c .new-3 .result .rows)) 0) (sym changed) (subst (λ (l : List SavedPage). Sound maps (c .new-2 .result .used) [] l 0) (sym saved) (subst (λ (n : ℕ). Sound maps n [] [] 0) (sym (c .new-2 .ensures)) empty)) ∣₁, tt)))
 
 pub returns : need.returns
 unfolding stack

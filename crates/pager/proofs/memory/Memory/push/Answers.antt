@@ -35,6 +35,7 @@ ghost-self c =
           ∥∥₁-map (m .sound)
               (λ s. record {
                 link = s .link;
+                all = s .all;
                 below = subst (λ (n : ℕ). (d p : ℕ) → has-from (suc n) (fields m .saved) d p ≡ false) (sym (add-one (m .levels))) (sound-pushed (λ _. []) (fields m) (m .levels) (s .below) (omega arith));
               }),
           tt,
@@ -46,7 +47,7 @@ pub returns : need.returns
 unfolding with-sizes
 returns c =
     let m = c .args .self .now in
-    let below = none-above (m .maps) (fields m .changed) (fields m .saved) (m .levels) (m .sound) in
+    let below = none-above (m .maps) (m .changed .used) (fields m .changed) (fields m .saved) (m .levels) (m .sound) in
     record {
       refusal = sym (cond-false _ _ _ (ne-eqb (m .levels) 8 (λ e. omega arith)));
       kept = λ some. absurd (some refl);

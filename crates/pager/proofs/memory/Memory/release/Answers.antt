@@ -41,6 +41,7 @@ ghost-self c =
           ∥∥₁-map (m .sound)
               (λ old. record {
                 link = old .link;
+                all = old .all;
                 below = λ d p. ap (λ (l : List SavedPage). has-from (suc (s - 1)) l d p) (c .passed-down-saved .ensures) ∙ sound-released (λ _. []) (fields m) s (m .levels) low high (old .below) d p;
               }),
           tt,
@@ -56,7 +57,7 @@ returns c =
     let is = sym (c .stands .ensures) ∙ c .if-not-stands .left in
     let low = leb-true 1 s (and-parts (leb 1 s) (leb s (m .levels)) is .0) in
     let high = leb-true s (m .levels) (and-parts (leb 1 s) (leb s (m .levels)) is .1) in
-    let below = none-above (m .maps) (fields m .changed) (fields m .saved) (m .levels) (m .sound) in
+    let below = none-above (m .maps) (m .changed .used) (fields m .changed) (fields m .saved) (m .levels) (m .sound) in
     let with : List SavedPage → Fields = λ l. record { sizes = m .sizes; maps = m .maps; changed = fields m .changed; saved = l; level-sizes = m .«level_sizes» } in
     record {
       refusal = sym (cond-true _ _ _ is);

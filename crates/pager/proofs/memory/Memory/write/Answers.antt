@@ -26,7 +26,7 @@ ghost-self c =
     let inside = ok .database in
     let wrote =
     wrote-from m d p (c .args .bytes .now) (c .copy-from-slice .last .self) (c .max .result) (c .insert .last .self) (c .put .last .self) (c .saved-first-saved .result) (omega arith) (omega arith) (page-is m d p (ok .page)) (c .max .ensures) (c .insert .ensures) (c .put .ensures .look) (c .copy-from-slice .ensures .after) (c .saved-first-saved .ensures) in
-    (m .few, (m .low, (∥∥₁-map (m .sound) (sound-written (fields m) _ (m .levels) d p (c .args .bytes .now) wrote), tt)))
+    (m .few, (m .low, (∥∥₁-map (m .sound) (sound-written (fields m) _ (m .levels) (m .changed .used) _ d p (c .args .bytes .now) wrote (omega arith) (page-is m d p (ok .page)) (c .put .ensures .used)), tt)))
 
 pub returns : need.returns
 returns c =
@@ -39,7 +39,7 @@ returns c =
     let wrote =
     wrote-from m d p bytes (c .copy-from-slice .last .self) (c .max .result) (c .insert .last .self) (c .put .last .self) (c .saved-first-saved .result) (omega arith) (omega arith) (page-is m d p (ok .page)) (c .max .ensures) (c .insert .ensures) (c .put .ensures .look) (c .copy-from-slice .ensures .after) (c .saved-first-saved .ensures) in
     let long = look-long (m .changed .rows) (m .changed .used) (m .changed .whole) in
-    let link = linked (m .maps) (fields m .changed) (fields m .saved) (m .levels) (m .sound) d p (omega arith) in
+    let link = linked (m .maps) (m .changed .used) (fields m .changed) (fields m .saved) (m .levels) (m .sound) d p (omega arith) in
     record {
       refusal = c .in-rest .ensures tt;
       kept = λ some. absurd (some refl);

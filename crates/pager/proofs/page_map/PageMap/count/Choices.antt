@@ -4,5 +4,5 @@ use Rattle.pager.specs.Sets.{counted}
 use Rattle.pager.specs.Words.{pages-of}
 use Rattle.pager.proofs.page_map.PageMap.count.Given as given
 
-abbrev pub Inv-loop-w : given.InvT-loop-w
-Inv-loop-w l = (l .n ≡ counted (pages-of (l .self .words)) (l .w-index * 64)) × (l .n ≤ 64 * l .w-index)
+abbrev pub Inv-loop-i : given.InvT-loop-i
+Inv-loop-i l = (l .n ≡ counted (pages-of (l .self .words)) (l .i * 64)) × (l .n ≤ 64 * l .i)
