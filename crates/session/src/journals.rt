@@ -51,7 +51,12 @@ fn add(tally: &mut Tally, verdict: Verdict) {
 
 /// The verdicts with each byte of a part flipped in turn.
 fn flipped(bytes: &mut [u8], from: usize, to: usize) -> Tally {
-    let mut tally = Tally { spent: 0, other: 0, first: 0, sound: 0 };
+    let mut tally = Tally {
+        spent: 0,
+        other: 0,
+        first: 0,
+        sound: 0,
+    };
     for i in from..to {
         if i < bytes.len() {
             bytes[i] ^= 0xff;
@@ -63,7 +68,13 @@ fn flipped(bytes: &mut [u8], from: usize, to: usize) -> Tally {
 }
 
 /// A row of the table of flipped bytes.
-fn flip_row(rt: &LibcRuntime, bytes: &mut [u8], name: &str, from: usize, to: usize) -> Result<(), AnyError> {
+fn flip_row(
+    rt: &LibcRuntime,
+    bytes: &mut [u8],
+    name: &str,
+    from: usize,
+    to: usize,
+) -> Result<(), AnyError> {
     let tally = flipped(bytes, from, to);
     let spent = tally.spent;
     let other = tally.other;
@@ -94,7 +105,10 @@ fn count_row(rt: &LibcRuntime, bytes: &mut [u8], count: u8) -> Result<(), AnyErr
 /// The verdicts on a journal with other counts, and cut short.
 fn judge_counts(rt: &LibcRuntime, bytes: &mut [u8]) -> Result<(), AnyError> {
     println!(rt, "")?;
-    println!(rt, "A journal of one zero page, nonce 7, that names a-mj: {LENGTH} bytes")?;
+    println!(
+        rt,
+        "A journal of one zero page, nonce 7, that names a-mj: {LENGTH} bytes"
+    )?;
     println!(rt, "")?;
     count_row(rt, bytes, 0)?;
     count_row(rt, bytes, 2)?;
@@ -108,7 +122,11 @@ fn judge_counts(rt: &LibcRuntime, bytes: &mut [u8]) -> Result<(), AnyError> {
 /// The verdicts with each byte of the header flipped.
 fn judge_header(rt: &LibcRuntime, bytes: &mut [u8]) -> Result<(), AnyError> {
     println!(rt, "")?;
-    println!(rt, "{:<32}{:>6}{:>12}{:>12}{:>7}", "one byte flipped, in the", "spent", "damaged, 0", "damaged, 1", "sound")?;
+    println!(
+        rt,
+        "{:<32}{:>6}{:>12}{:>12}{:>7}",
+        "one byte flipped, in the", "spent", "damaged, 0", "damaged, 1", "sound"
+    )?;
     flip_row(rt, bytes, "magic", 0, 8)?;
     flip_row(rt, bytes, "count", 8, 12)?;
     flip_row(rt, bytes, "nonce", 12, 16)?;

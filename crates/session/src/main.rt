@@ -14,8 +14,8 @@ use filled::print_journal;
 use journals::judge_each;
 use report::Report;
 use std::env;
-use std::fs;
 use std::error::AnyError;
+use std::fs;
 
 /// A card of 16 slots of 64 bytes: 27 bytes for each file.
 const IMAGE: usize = 1024;
