@@ -18,6 +18,7 @@ pub struct Half<'a> {
     pub bytes: &'a mut [u8],
 }
 
+/// Writes on the halves.
 pub fn write(
     current: &mut Half,
     synced: &mut Half,
@@ -39,6 +40,7 @@ pub fn write(
     )
 }
 
+/// Creates on the halves.
 pub fn create(
     current: &mut Half,
     synced: &mut Half,
@@ -56,6 +58,7 @@ pub fn create(
     )
 }
 
+/// Sets a length on the halves.
 pub fn set_length(
     current: &mut Half,
     synced: &mut Half,
@@ -75,6 +78,7 @@ pub fn set_length(
     )
 }
 
+/// Syncs on the halves.
 pub fn sync(
     current: &mut Half,
     synced: &mut Half,
@@ -92,6 +96,7 @@ pub fn sync(
     )
 }
 
+/// Deletes on the halves.
 pub fn delete(
     current: &mut Half,
     synced: &mut Half,
@@ -109,6 +114,7 @@ pub fn delete(
     )
 }
 
+/// Tells a length on the halves.
 pub fn length(
     current: &mut Half,
     synced: &mut Half,
@@ -127,6 +133,7 @@ pub fn length(
     )
 }
 
+/// Reads on the halves.
 pub fn read(
     current: &mut Half,
     synced: &mut Half,

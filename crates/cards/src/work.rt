@@ -39,6 +39,7 @@ fn undone(lost: Option<Kept>) -> bool
     matches!(lost, Some(Kept::Synced))
 }
 
+/// Puts bytes into the file, unless that is left undone, and then loses power if that was told.
 pub fn write(
     current: &mut [u8],
     synced: &mut [u8],
@@ -57,6 +58,7 @@ pub fn write(
     lose(current, synced, lost, answer)
 }
 
+/// Makes an empty file, unless that is left undone, and then loses power if that was told.
 pub fn create(
     current: &mut [u8],
     synced: &mut [u8],
@@ -73,6 +75,7 @@ pub fn create(
     lose(current, synced, lost, answer)
 }
 
+/// Cuts or fills the file, unless that is left undone, and then loses power if that was told.
 pub fn set_length(
     current: &mut [u8],
     synced: &mut [u8],
@@ -90,6 +93,7 @@ pub fn set_length(
     lose(current, synced, lost, answer)
 }
 
+/// Syncs the file, unless that is left undone, and then loses power if that was told.
 pub fn sync(
     current: &mut [u8],
     synced: &mut [u8],
@@ -106,6 +110,7 @@ pub fn sync(
     lose(current, synced, lost, answer)
 }
 
+/// Makes the file absent, unless that is left undone, and then loses power if that was told.
 pub fn delete(
     current: &mut [u8],
     synced: &mut [u8],
