@@ -3,6 +3,7 @@
 mod cuts;
 mod filled;
 mod journals;
+mod pages;
 mod report;
 
 use card::Card;
@@ -12,6 +13,7 @@ use cuts::cut_each;
 use cuts::trouble_each;
 use filled::print_journal;
 use journals::judge_each;
+use pages::change_pages;
 use report::Report;
 use std::env;
 use std::error::AnyError;
@@ -65,7 +67,8 @@ fn run(rt: &LibcRuntime) -> Result<(), AnyError> {
     report.end()?;
     cut_each(rt)?;
     trouble_each(rt)?;
-    judge_each(rt)
+    judge_each(rt)?;
+    change_pages(rt)
 }
 
 /// Does what the words ask for: nothing is the report, and `journal DATABASE [SUPER]` prints a journal
