@@ -1,7 +1,7 @@
 // The delayed card: changes wait for a sync, and it can be told to lose power.
 ghost use mathlib.Core.Path.{_≡_};
 ghost use mathlib.Core.Bool.{Bool, true, false};
-ghost use Prim.Native.Nat.{ℕ, _≤_, _<_};
+ghost use Prim.Native.Nat.{ℕ, _/_, _≤_, _<_};
 ghost use denote.Ref.{now as lent};
 ghost use lib.ListN.{length as count};
 ghost use Rattle.std.specs.Results.{Cases};
@@ -53,7 +53,7 @@ impl DelayedCard<'_> {
     pub fn new(image: &mut [u8], origin: u8) -> DelayedCard<'_>
         ensures current { λ r. ⌜ Empty (lent (r .current .bytes)) ⌝ }
         ensures synced { λ r. ⌜ Empty (lent (r .synced .bytes)) ⌝ }
-        ensures size { λ r. ⌜ count (lent (r .current .bytes)) ≡ count (lent (r .synced .bytes)) ⌝ }
+        ensures halves { λ r. ⌜ (count (lent (r .current .bytes)) ≡ count (now (image .entry)) / 2) × (count (lent (r .synced .bytes)) ≡ count (now (image .entry)) / 2) ⌝ }
         ensures on { λ r. ⌜ r .on ≡ true ⌝ }
         ensures untold { λ r. ⌜ r .cut ≡ None ⌝ }
         ensures origin { λ r. ⌜ r .origin ≡ origin ⌝ }
