@@ -3,6 +3,8 @@
 // A card's meaning has three parts: whether power is on, what each present file holds now, and which
 // contents of each file may remain if power fails. Every call says what it does to that meaning by
 // one relation over what was asked and what was answered; docs/CARD.md tells it in words.
+#![tactic(auto)]
+
 ghost use Rattle.std.specs.Prelude.{◌≡◌, ℕ, Bool, List, length as count, Option};
 ghost use Rattle.card.specs.Meaning.{Meaning, Lawful, Switched};
 ghost use Rattle.card.specs.Calls.{Answered, ToldLength, ToldBytes};

@@ -1,4 +1,6 @@
 // The edges of the cards: limits of names, files and slots, run and compared.
+#![tactic(auto)]
+
 #[cfg(test)]
 mod delayed_edges;
 #[cfg(test)]

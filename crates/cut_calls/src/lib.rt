@@ -2,6 +2,8 @@
 //
 // Each call is told what a power failure in it keeps, if there is to be one: then the call is done, or
 // left undone, the halves have what is kept, and the answer is power.
+#![tactic(auto)]
+
 mod trimmed;
 mod work;
 

@@ -1,4 +1,6 @@
 // The direct card: every change is synced at once, so power is never lost on it.
+#![tactic(auto)]
+
 ghost use Rattle.std.specs.Prelude.{◌≡◌, ℕ, true, length as count, Some};
 ghost use Rattle.card.specs.Meaning.{Switched};
 ghost use Rattle.card.specs.Calls.{Answered, ToldLength, ToldBytes};

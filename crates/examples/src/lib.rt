@@ -1,4 +1,6 @@
 // Worked examples of the store's formats, as one table under one theorem.
+#![tactic(auto)]
+
 ghost use Rattle.examples.specs.Table.{Table, SoundAs};
 
 use journal::{Verdict, judge};

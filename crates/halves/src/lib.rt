@@ -2,6 +2,8 @@
 //
 // A file lies in the same slot of both halves. The calls that change both stand here, and what a power
 // failure keeps of each file; every other call is the image's, on the current half.
+#![tactic(auto)]
+
 mod both;
 mod loss;
 

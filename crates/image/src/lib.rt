@@ -2,6 +2,8 @@
 //
 // Each call on an image takes its name first for a search of the slots, tests it and then the file,
 // and does the call's work. An image holds what its bytes say, so any bytes at all are an image.
+#![tactic(auto)]
+
 mod empty;
 mod fault;
 mod slot;

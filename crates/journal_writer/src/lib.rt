@@ -1,6 +1,8 @@
 // Journals, written: their parts put into a caller's buffer, and whole journals stored on a card.
 //
 // The crate `journal` has what the bytes are, and judges them.
+#![tactic(auto)]
+
 mod filler;
 mod stored;
 mod writer;

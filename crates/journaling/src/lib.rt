@@ -3,6 +3,8 @@
 //
 // The specs of this crate have the whole plan of a commit, which the crates `page_writer` and `commit`
 // carry out with it.
+#![tactic(auto)]
+
 mod journals;
 mod originals;
 mod pages;

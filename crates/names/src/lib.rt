@@ -1,4 +1,6 @@
 // Checked lists of names: the databases of a set, and the names of all files that go with them.
+#![tactic(auto)]
+
 mod file_name;
 mod names;
 

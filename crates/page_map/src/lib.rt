@@ -1,4 +1,6 @@
 // A set of pages as a map of 4,096 bits.
+#![tactic(auto)]
+
 ghost use Rattle.std.specs.Prelude.{◌≡◌, ℕ, false, if◌then◌else◌, MatchOption};
 ghost use Rattle.page_map.specs.Sets.{is_page, including, without, counted, NoneAbove, NextAbove, VisitLaw};
 ghost use Rattle.page_map.specs.Words.{pages_of};

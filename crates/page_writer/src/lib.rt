@@ -1,4 +1,6 @@
 // The changed pages of one database, as a commit writes them to its file.
+#![tactic(auto)]
+
 mod databases;
 
 pub use databases::write_pages;

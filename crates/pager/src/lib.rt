@@ -1,5 +1,7 @@
 // The memory half of a transaction: the pages changed so far, and the savepoints to step back to.
 // It knows no card.
+#![tactic(auto)]
+
 mod changed_page;
 mod changed_pages;
 mod memory;

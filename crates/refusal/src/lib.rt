@@ -1,4 +1,6 @@
 // Why a call of the set says no: the numbered refusals, and the fault that goes beside the last.
+#![tactic(auto)]
+
 mod fault;
 mod refusals;
 mod step;

@@ -1,5 +1,7 @@
 // The program: a file task on a delayed card, cut or refused at each of its calls in turn; a journal,
 // judged; a transaction in memory; and a set, told call by call, cut in its commit and in its recovery.
+#![tactic(auto)]
+
 mod board;
 mod cuts;
 mod filled;

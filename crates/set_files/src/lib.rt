@@ -2,6 +2,8 @@
 //
 // The parts of a recovery stand on this: the crate `survey` looks at the files, `settling` settles what
 // was found, and `recovery` puts them together.
+#![tactic(auto)]
+
 mod numbered;
 mod whole;
 

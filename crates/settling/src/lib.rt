@@ -2,6 +2,8 @@
 //
 // For each database in order a hot journal's pages are written back, the database gets its first size
 // and is made safe; then the journal is deleted, hot or spent. The super-journal goes last.
+#![tactic(auto)]
+
 mod playback;
 mod settling;
 

@@ -1,4 +1,6 @@
 // The sizes of a set's databases, in pages: each is at least 1 and at most 4,096.
+#![tactic(auto)]
+
 ghost use Rattle.std.specs.Prelude.{◌≡◌, ℕ, ◌<◌, ◌≤◌, Bool, [], ◌∷◌, MatchOption, slice_index};
 ghost use Rattle.sizes.specs.Fitting.{fits, EachSome, EachSmall, Fitting};
 

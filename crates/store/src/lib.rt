@@ -1,4 +1,6 @@
 // A set of databases over a card: one transaction at a time, its pages in memory, its files on the card.
+#![tactic(auto)]
+
 mod mode;
 mod set;
 mod transaction;

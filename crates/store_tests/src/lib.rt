@@ -1,5 +1,7 @@
 // The set, run: with a power failure or a device fault at each call of the card, with damaged files, and
 // at the edges of its calls.
+#![tactic(auto)]
+
 #[cfg(test)]
 mod calls;
 #[cfg(test)]

@@ -1,4 +1,6 @@
 // The super-journal: the file that names the journals of one commit, written and read.
+#![tactic(auto)]
+
 mod reader;
 mod writer;
 

@@ -1,4 +1,6 @@
 // The trouble layer: over any card it refuses given calls, and passes every other call on.
+#![tactic(auto)]
+
 ghost use Rattle.std.specs.Prelude.{◌≡◌, ℕ, ◌<◌, ◌≤◌, Bool, true, false, ◌&&◌, ◌⊎◌, List, length as count, take, MatchResult};
 ghost use Rattle.card.specs.declared.fault.Cause.TheVariants.{Device};
 ghost use Rattle.card.specs.Meaning.{Lawful, Switched};

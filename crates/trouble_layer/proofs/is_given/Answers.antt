@@ -14,4 +14,4 @@ take_min xs n k is = ext_get_or 0 _ _ (simp length-take (omega (arith, is))) eac
         get_or-take (k - 0) xs i 0 below ∙ sym (get_or-take n xs i 0 within)
 
 pub returns : goal.returns
-returns c = c.is-listed.ensures ∙ ap (listed c.args.call) (take_min c.args.given.now c.args.count c.min-n.result c.min-n.ensures)
+returns c = c.is_listed.ensures ∙ ap (listed c.args.call) (take_min c.args.given.now c.args.count c.min-n.result c.min-n.ensures)

@@ -14,7 +14,7 @@ returns c =
       | then-not-undone w ↦
           call_lost (set_length c.args.length) n current synced c.args.lost c.if-not-undone.current c.args.synced.now _ _ c.if-not-undone.answer c.lose.result
           (λ t. absurd (both_ways _ w.if-not-undone.true (c.undone.ensures ∙ t)))
-          (λ e. paired_at (set_length c.args.length) n current synced _ _ _ _ _ _ w.answer-is w.current-is refl (stored_paired (set_length c.args.length) n current synced w.set-length-answer.result _ w.set-length-answer.ensures refl (λ a b. refl)))
+          (λ e. paired_at (set_length c.args.length) n current synced _ _ _ _ _ _ w.answer-is w.current-is refl (stored_paired (set_length c.args.length) n current synced w.set_length-answer.result _ w.set_length-answer.ensures refl (λ a b. refl)))
           c.lose.ensures
       | else-not-undone w ↦
           call_lost (set_length c.args.length) n current synced c.args.lost c.if-not-undone.current c.args.synced.now _ _ c.if-not-undone.answer c.lose.result

@@ -5,10 +5,10 @@ use Rattle.image.proofs.Files.{answer_at, answer_absent}
 use Rattle.halves.proofs.Backed.{pair_synced}
 use Rattle.halves.proofs.both.sync.Goals as goal
 
-pub returns-in-err-k : goal.returns-in-err-k
-returns-in-err-k c =
-    let p = err_from_is_err_and c.from-residual.result c.from-residual.ensures.1 in
-    let why = c.in-err-k.ensures in
+pub returns-in_err-k : goal.returns-in_err-k
+returns-in_err-k c =
+    let p = err_from_is_err_and c.from_residual.result c.from_residual.ensures.1 in
+    let why = c.in_err-k.ensures in
     rw (p.1, p.2)
     (record {
       paired = λ e. record { answer = answer_absent c.args.current.now c.args.name.now sync _ why.0 why.1 refl; left = (refl, refl) };
@@ -17,8 +17,8 @@ returns-in-err-k c =
 
 pub returns : goal.returns
 returns c =
-    let found = c.in-ok-k.ensures in
+    let found = c.in_ok-k.ensures in
     record {
-      paired = λ e. record { answer = sym (answer_at c.args.current.now c.args.name.now sync c.in-ok-k.k found); left = pair_synced c.args.name.now c.args.current.now c.args.synced.now _ c.in-ok-k.k found c.settle.ensures };
+      paired = λ e. record { answer = sym (answer_at c.args.current.now c.args.name.now sync c.in_ok-k.k found); left = pair_synced c.args.name.now c.args.current.now c.args.synced.now _ c.in_ok-k.k found c.settle.ensures };
       unequal = λ ne. absurd (ne c.if-current-synced.false);
     }

@@ -33,9 +33,9 @@ loop-k-preserved c =
     let put = slot_write current new k at where-at whole in
     let current'' = put_mid at (at + slot_size current - at) current new in
     let grown : slot_size current'' ≡ slot_size current = ap (λ (i : Bytes). length i / 16) put ∙ put_size current k new in_image whole in
-    let copy = c.copy-from-slice.new.self in
+    let copy = c.copy_from_slice.new.self in
     let copied : copy ≡ new =
-    c.copy-from-slice.ensures.after
+    c.copy_from_slice.ensures.after
     ∙ ap (λ (n : ℕ). take (at + n - at) (drop at current'')) (sym grown)
     ∙ slot_part current'' k at (where-at ∙ ap (λ (n : ℕ). k * n) (sym grown))
     ∙ ap (λ (i : Bytes). slot i k) put ∙ slot_put current k new in_image whole in

@@ -16,7 +16,7 @@ returns c =
     let s₁ = overwrite s 0 name in
     let s₂ = set s₁ 32 n in
     let s' = c.put_length.new.slot in
-    let put : put_mid 0 (n - 0) s c.copy-from-slice.new.self ≡ s₁ = put_overwrite 0 (n - 0) s c.copy-from-slice.new.self name c.copy-from-slice.ensures.after (omega arith) in
+    let put : put_mid 0 (n - 0) s c.copy_from_slice.new.self ≡ s₁ = put_overwrite 0 (n - 0) s c.copy_from_slice.new.self name c.copy_from_slice.ensures.after (omega arith) in
     let long : length s₁ ≡ length s = overwrite_length s 0 name (omega arith) in
     let before : take 33 s' ≡ take 33 s₂ = c.put_length.ensures.before ∙ ap (λ (x : Bytes). take 33 (set x 32 n)) put in
     let size : get_or s' 32 0 ≡ n =
@@ -24,7 +24,7 @@ returns c =
     let short : n ≤ 33 = omega arith in
     let front : take n s' ≡ name =
     sym (take-take n 33 s' short) ∙ ap (take n) before ∙ take-take n 33 s₂ short ∙ take-set-le n s₁ 32 n (omega arith) ∙ take_at name _ n refl in
-    let head : 37 ≤ length s' = omega (arith, c.put_length.auto.slot, ap length put, long, length-set (put_mid 0 (n - 0) s c.copy-from-slice.new.self) 32 n) in
+    let head : 37 ≤ length s' = omega (arith, c.put_length.auto.slot, ap length put, long, length-set (put_mid 0 (n - 0) s c.copy_from_slice.new.self) 32 n) in
     record {
       content = nil_from_length _ (length_content s' ∙ omega (arith, c.put_length.ensures.number));
       named = λ m. named_as name m s' head c.requires.some c.requires.short size front;

@@ -11,8 +11,8 @@ pub returns : goal.returns
 returns c =
     let s = c.args.slot.now in
     let n = c.args.length in
-    let put : put_mid 33 4 s c.copy-from-slice.new.self ≡ overwrite s 33 (number_bytes n) =
-    put_overwrite 33 4 s c.copy-from-slice.new.self (number_bytes n) (c.copy-from-slice.ensures.after ∙ c.to-be-bytes-bytes.ensures) (omega arith) in
+    let put : put_mid 33 4 s c.copy_from_slice.new.self ≡ overwrite s 33 (number_bytes n) =
+    put_overwrite 33 4 s c.copy_from_slice.new.self (number_bytes n) (c.copy_from_slice.ensures.after ∙ c.to_be_bytes-bytes.ensures) (omega arith) in
     record {
       before = ap (take 33) put ∙ overwrite_take s 33 (number_bytes n) (omega arith) 33 (omega arith);
       number = ap (λ (x : Bytes). number_at x 33) put ∙ number_put s 33 n (omega arith) c.requires.small;

@@ -20,23 +20,23 @@ nothing : (n image : Bytes) (o : Option ℕ) → FirstSlot (named n) image o →
 nothing n image None none is = none
 nothing n image (Some k) is_at is = absurd (both_ways true is refl)
 
-pub returns-then-is-some : goal.returns-then-is-some
-returns-then-is-some c =
-    refused create c.args.name.now c.args.image.now _ (found c.args.name.now c.args.image.now c.find.result c.find.ensures (sym c.is-some.ensures ∙ c.if-is-some.true))
+pub returns-then-is_some : goal.returns-then-is_some
+returns-then-is_some c =
+    refused create c.args.name.now c.args.image.now _ (found c.args.name.now c.args.image.now c.find.result c.find.ensures (sym c.is_some.ensures ∙ c.if-is_some.true))
 
-pub returns-in-default : goal.returns-in-default
-returns-in-default c =
+pub returns-in_default : goal.returns-in_default
+returns-in_default c =
     let image = c.args.image.now in
     let n = c.args.name.now in
-    let none = nothing n image c.find.result c.find.ensures (sym c.is-some.ensures ∙ c.if-is-some.false) in
-    let ok = sym c.is-name.ensures ∙ c.if-not-is-name.false in
-    refused create n image _ (sym (answer_named image n create none ok ∙ ap (or_device None) (crowded_none image c.in-default.ensures)))
+    let none = nothing n image c.find.result c.find.ensures (sym c.is_some.ensures ∙ c.if-is_some.false) in
+    let ok = sym c.is_name.ensures ∙ c.if-not-is_name.false in
+    refused create n image _ (sym (answer_named image n create none ok ∙ ap (or_device None) (crowded_none image c.in_default.ensures)))
 
 pub claim-requires : goal.claim-requires
 claim-requires c =
     let image = c.args.image.now in
     let k = c.in-Some.k in
-    let ok = sym c.is-name.ensures ∙ c.if-not-is-name.false in
+    let ok = sym c.is_name.ensures ∙ c.if-not-is_name.false in
     let vacant = c.in-Some.ensures in
     let part = slot_part image k c.start-at.result c.start-at.ensures.is in
     record {
@@ -50,8 +50,8 @@ returns c =
     let image = c.args.image.now in
     let n = c.args.name.now in
     let k = c.in-Some.k in
-    let none = nothing n image c.find.result c.find.ensures (sym c.is-some.ensures ∙ c.if-is-some.false) in
-    let ok = sym c.is-name.ensures ∙ c.if-not-is-name.false in
+    let none = nothing n image c.find.result c.find.ensures (sym c.is_some.ensures ∙ c.if-is_some.false) in
+    let ok = sym c.is_name.ensures ∙ c.if-not-is_name.false in
     let vacant = c.in-Some.ensures in
     let new = c.claim.new.slot in
     let whole : length new ≡ slot_size image = c.claim.auto.slot ∙ ap length (slot_part image k c.start-at.result c.start-at.ensures.is) ∙ length_slot image k vacant.0 in

@@ -5,15 +5,15 @@ use Rattle.image.proofs.Files.{answer_at, answer_absent, refused}
 use Rattle.image.proofs.Freeing.{done_deleted}
 use Rattle.image.proofs.slots.delete.Goals as goal
 
-pub returns-in-err-present : goal.returns-in-err-present
-returns-in-err-present c =
-    let p = err_from_is_err_and c.from-residual.result c.from-residual.ensures.1 in
-    let why = c.in-err-present.ensures in
+pub returns-in_err-present : goal.returns-in_err-present
+returns-in_err-present c =
+    let p = err_from_is_err_and c.from_residual.result c.from_residual.ensures.1 in
+    let why = c.in_err-present.ensures in
     rw (p.1, p.2) (refused delete c.args.name.now c.args.image.now _ (answer_absent c.args.image.now c.args.name.now delete _ why.0 why.1 refl))
 
 pub returns : goal.returns
 returns c =
     let image = c.args.image.now in
     let n = c.args.name.now in
-    let found = c.in-ok-present.ensures in
-    record { answer = sym (answer_at image n delete _ found); left = done_deleted image c.free-all.new.image n _ found c.free-all.ensures }
+    let found = c.in_ok-present.ensures in
+    record { answer = sym (answer_at image n delete _ found); left = done_deleted image c.free_all.new.image n _ found c.free_all.ensures }

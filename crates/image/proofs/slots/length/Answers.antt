@@ -6,10 +6,10 @@ use Rattle.image.proofs.Named.{named_parts}
 use Rattle.image.proofs.Files.{held_at, held_none, answer_at, answer_named, done_looked}
 use Rattle.image.proofs.slots.length.Goals as goal
 
-pub file-length-requires : goal.file-length-requires
-file-length-requires c =
+pub file_length-requires : goal.file_length-requires
+file_length-requires c =
     let head = (named_parts c.args.name.now (slot c.args.image.now c.in-Some.k) c.in-Some.ensures.1).1 in
-    rw c.slot-at.ensures.is head
+    rw c.slot_at.ensures.is head
 
 pub returns-in-Some : goal.returns-in-Some
 returns-in-Some c =
@@ -19,7 +19,7 @@ returns-in-Some c =
     record {
       stored = record { answer = sym (answer_at image n length_of c.in-Some.k found); left = done_looked length_of n image refl (λ k. refl) };
       told =
-          ap Some (c.file-length.ensures.is ∙ ap (λ (s : Bytes). length (content s)) c.slot-at.ensures.is)
+          ap Some (c.file_length.ensures.is ∙ ap (λ (s : Bytes). length (content s)) c.slot_at.ensures.is)
           ∙ sym (ap length_told (held_at image n c.in-Some.k found));
     }
 
@@ -29,6 +29,6 @@ returns-in-None c =
     let n = c.args.name.now in
     let none = c.in-None.ensures in
     record {
-      stored = record { answer = sym (answer_named image n length_of none (sym c.is-name.ensures ∙ c.if-not-is-name.false)); left = done_looked length_of n image refl (λ k. refl) };
+      stored = record { answer = sym (answer_named image n length_of none (sym c.is_name.ensures ∙ c.if-not-is_name.false)); left = done_looked length_of n image refl (λ k. refl) };
       told = sym (ap length_told (held_none image n none));
     }

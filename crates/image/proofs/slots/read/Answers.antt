@@ -8,49 +8,49 @@ use Rattle.image.proofs.Named.{named_parts}
 use Rattle.image.proofs.Files.{held_at, answer_absent, answer_range, answer_room, done_looked, refused}
 use Rattle.image.proofs.slots.read.Goals as goal
 
-pub returns-in-err-k : goal.returns-in-err-k
-returns-in-err-k c =
-    let p = err_from_is_err_and c.from-residual.result c.from-residual.ensures.1 in
-    let why = c.in-err-k.ensures in
+pub returns-in_err-k : goal.returns-in_err-k
+returns-in_err-k c =
+    let p = err_from_is_err_and c.from_residual.result c.from_residual.ensures.1 in
+    let why = c.in_err-k.ensures in
     let op = read c.args.place (length c.args.buffer.now) in
     rw (p.1, p.2)
     (record { stored = refused op c.args.name.now c.args.image.now _ (answer_absent c.args.image.now c.args.name.now op _ why.0 why.1 refl); told = refl })
 
-pub file-length-requires : goal.file-length-requires
-file-length-requires c =
-    let head = (named_parts c.args.name.now (slot c.args.image.now c.in-ok-k.k) c.in-ok-k.ensures.1).1 in
-    rw c.slot-at-slot.ensures.is head
+pub file_length-requires : goal.file_length-requires
+file_length-requires c =
+    let head = (named_parts c.args.name.now (slot c.args.image.now c.in_ok-k.k) c.in_ok-k.ensures.1).1 in
+    rw c.slot_at-slot.ensures.is head
 
-pub returns-then-not-ends-within : goal.returns-then-not-ends-within
-returns-then-not-ends-within c =
+pub returns-then-not-ends_within : goal.returns-then-not-ends_within
+returns-then-not-ends_within c =
     let image = c.args.image.now in
     let n = c.args.name.now in
-    let k = c.in-ok-k.k in
+    let k = c.in_ok-k.k in
     let count = length c.args.buffer.now in
     let op = read c.args.place count in
-    let long : c.file-length.result ≡ length (content (slot image k)) = c.file-length.ensures.is ∙ ap (λ (s : Bytes). length (content s)) c.slot-at-slot.ensures.is in
+    let long : c.file_length.result ≡ length (content (slot image k)) = c.file_length.ensures.is ∙ ap (λ (s : Bytes). length (content s)) c.slot_at-slot.ensures.is in
     let out : leb (c.args.place + count) (length (content (slot image k))) ≡ false =
-    ap (λ (m : ℕ). leb (c.args.place + count) m) (sym long) ∙ sym c.ends_within.ensures ∙ c.if-not-ends-within.true in
-    record { stored = refused op n image _ (answer_range image n op k _ c.in-ok-k.ensures refl out); told = refl }
+    ap (λ (m : ℕ). leb (c.args.place + count) m) (sym long) ∙ sym c.ends_within.ensures ∙ c.if-not-ends_within.true in
+    record { stored = refused op n image _ (answer_range image n op k _ c.in_ok-k.ensures refl out); told = refl }
 
-pub copy-out-requires : goal.copy-out-requires
-copy-out-requires c =
-    let head = (named_parts c.args.name.now (slot c.args.image.now c.in-ok-k.k) c.in-ok-k.ensures.1).1 in
-    let inside : c.args.place + length c.args.buffer.now ≤ c.file-length.result = leb-true _ _ (sym c.ends_within.ensures ∙ c.if-not-ends-within.false) in
-    record { head = rw c.slot-at-slot.ensures.is head; inside = subst (λ (m : ℕ). c.args.place + length c.args.buffer.now ≤ m) c.file-length.ensures.is inside }
+pub copy_out-requires : goal.copy_out-requires
+copy_out-requires c =
+    let head = (named_parts c.args.name.now (slot c.args.image.now c.in_ok-k.k) c.in_ok-k.ensures.1).1 in
+    let inside : c.args.place + length c.args.buffer.now ≤ c.file_length.result = leb-true _ _ (sym c.ends_within.ensures ∙ c.if-not-ends_within.false) in
+    record { head = rw c.slot_at-slot.ensures.is head; inside = subst (λ (m : ℕ). c.args.place + length c.args.buffer.now ≤ m) c.file_length.ensures.is inside }
 
 pub returns : goal.returns
 returns c =
     let image = c.args.image.now in
     let n = c.args.name.now in
-    let k = c.in-ok-k.k in
+    let k = c.in_ok-k.k in
     let count = length c.args.buffer.now in
     let op = read c.args.place count in
-    let long : c.file-length.result ≡ length (content (slot image k)) = c.file-length.ensures.is ∙ ap (λ (s : Bytes). length (content s)) c.slot-at-slot.ensures.is in
-    let within = ap (λ (m : ℕ). leb (c.args.place + count) m) (sym long) ∙ sym c.ends_within.ensures ∙ c.if-not-ends-within.false in
+    let long : c.file_length.result ≡ length (content (slot image k)) = c.file_length.ensures.is ∙ ap (λ (s : Bytes). length (content s)) c.slot_at-slot.ensures.is in
+    let within = ap (λ (m : ℕ). leb (c.args.place + count) m) (sym long) ∙ sym c.ends_within.ensures ∙ c.if-not-ends_within.false in
     record {
-      stored = record { answer = sym (answer_room image n op k _ false c.in-ok-k.ensures refl within refl); left = done_looked op n image refl (λ m. refl) };
+      stored = record { answer = sym (answer_room image n op k _ false c.in_ok-k.ensures refl within refl); left = done_looked op n image refl (λ m. refl) };
       told =
-          c.copy-out.ensures ∙ ap (λ (s : Bytes). part (content s) c.args.place count) c.slot-at-slot.ensures.is
-          ∙ sym (ap (λ (f : Option Bytes). part_of f c.args.place count) (held_at image n k c.in-ok-k.ensures));
+          c.copy_out.ensures ∙ ap (λ (s : Bytes). part (content s) c.args.place count) c.slot_at-slot.ensures.is
+          ∙ sym (ap (λ (f : Option Bytes). part_of f c.args.place count) (held_at image n k c.in_ok-k.ensures));
     }

@@ -10,52 +10,52 @@ use Rattle.image.proofs.Slices.{slot_part, slot_write, length_slot}
 use Rattle.image.proofs.Files.{answer_absent, answer_range, answer_room, done_changed, refused}
 use Rattle.image.proofs.slots.write.Goals as goal
 
-pub returns-in-err-k : goal.returns-in-err-k
-returns-in-err-k c =
-    let p = err_from_is_err_and c.from-residual.result c.from-residual.ensures.1 in
-    let why = c.in-err-k.ensures in
+pub returns-in_err-k : goal.returns-in_err-k
+returns-in_err-k c =
+    let p = err_from_is_err_and c.from_residual.result c.from_residual.ensures.1 in
+    let why = c.in_err-k.ensures in
     let op = write c.args.place c.args.bytes.now in
     rw (p.1, p.2) (refused op c.args.name.now c.args.image.now _ (answer_absent c.args.image.now c.args.name.now op _ why.0 why.1 refl))
 
-pub file-length-requires : goal.file-length-requires
-file-length-requires c =
-    let head = (named_parts c.args.name.now (slot c.args.image.now c.in-ok-k.k) c.in-ok-k.ensures.1).1 in
-    rw c.slot-at.ensures.is head
+pub file_length-requires : goal.file_length-requires
+file_length-requires c =
+    let head = (named_parts c.args.name.now (slot c.args.image.now c.in_ok-k.k) c.in_ok-k.ensures.1).1 in
+    rw c.slot_at.ensures.is head
 
 -- the test of the range, as the file's content has it
 inside : (place size limit-end : ℕ) (b s : Bytes) → b ≡ s → size ≡ length (content b) → (r : Bool) → r ≡ cond (leb place size) (leb limit-end file_limit) false → cond (leb place (length (content s))) (leb limit-end file_limit) false ≡ r
 inside place size limit-end b s e is r told = ap (λ (m : ℕ). cond (leb place m) (leb limit-end file_limit) false) (sym (is ∙ ap (λ (x : Bytes). length (content x)) e)) ∙ sym told
 
-pub returns-then-not-may-write : goal.returns-then-not-may-write
-returns-then-not-may-write c =
+pub returns-then-not-may_write : goal.returns-then-not-may_write
+returns-then-not-may_write c =
     let image = c.args.image.now in
     let bytes = c.args.bytes.now in
     let op = write c.args.place bytes in
-    let out = inside c.args.place c.file-length.result (c.args.place + length bytes) _ _ c.slot-at.ensures.is c.file-length.ensures.is _ c.may-write.ensures ∙ c.if-not-may-write.true in
-    refused op c.args.name.now image _ (answer_range image c.args.name.now op c.in-ok-k.k _ c.in-ok-k.ensures refl out)
+    let out = inside c.args.place c.file_length.result (c.args.place + length bytes) _ _ c.slot_at.ensures.is c.file_length.ensures.is _ c.may_write.ensures ∙ c.if-not-may_write.true in
+    refused op c.args.name.now image _ (answer_range image c.args.name.now op c.in_ok-k.k _ c.in_ok-k.ensures refl out)
 
-pub returns-then-not-ends-within : goal.returns-then-not-ends-within
-returns-then-not-ends-within c =
+pub returns-then-not-ends_within : goal.returns-then-not-ends_within
+returns-then-not-ends_within c =
     let image = c.args.image.now in
     let bytes = c.args.bytes.now in
     let op = write c.args.place bytes in
-    let within = inside c.args.place c.file-length.result (c.args.place + length bytes) _ _ c.slot-at.ensures.is c.file-length.ensures.is _ c.may-write.ensures ∙ c.if-not-may-write.false in
-    let over = leb-false (c.args.place + length bytes) c.room.result (sym c.ends_within.ensures ∙ c.if-not-ends-within.true) in
+    let within = inside c.args.place c.file_length.result (c.args.place + length bytes) _ _ c.slot_at.ensures.is c.file_length.ensures.is _ c.may_write.ensures ∙ c.if-not-may_write.false in
+    let over = leb-false (c.args.place + length bytes) c.room.result (sym c.ends_within.ensures ∙ c.if-not-ends_within.true) in
     let full = lt-ltb (room image) (c.args.place + length bytes) (omega (arith, over, c.room.ensures)) in
-    refused op c.args.name.now image _ (sym (answer_room image c.args.name.now op c.in-ok-k.k _ true c.in-ok-k.ensures refl within full))
+    refused op c.args.name.now image _ (sym (answer_room image c.args.name.now op c.in_ok-k.k _ true c.in_ok-k.ensures refl within full))
 
-pub put-bytes-requires : goal.put-bytes-requires
-put-bytes-requires c =
+pub put_bytes-requires : goal.put_bytes-requires
+put_bytes-requires c =
     let image = c.args.image.now in
-    let k = c.in-ok-k.k in
+    let k = c.in_ok-k.k in
     let place = c.args.place in
     let bytes = c.args.bytes.now in
-    let found = c.in-ok-k.ensures in
+    let found = c.in_ok-k.ensures in
     let head = (named_parts c.args.name.now (slot image k) found.1).1 in
     let long = length_slot image k found.0 in
     let both = passed_both (leb place (length (content (slot image k)))) (leb (place + length bytes) file_limit)
-    (inside place c.file-length.result (place + length bytes) _ _ c.slot-at.ensures.is c.file-length.ensures.is _ c.may-write.ensures ∙ c.if-not-may-write.false) in
-    let under = leb-true (place + length bytes) c.room.result (sym c.ends_within.ensures ∙ c.if-not-ends-within.false) in
+    (inside place c.file_length.result (place + length bytes) _ _ c.slot_at.ensures.is c.file_length.ensures.is _ c.may_write.ensures ∙ c.if-not-may_write.false) in
+    let under = leb-true (place + length bytes) c.room.result (sym c.ends_within.ensures ∙ c.if-not-ends_within.false) in
     let fits : 37 + place + length bytes ≤ length (slot image k) = omega (arith, c.room.ensures, under, head, long) in
     let limit = leb-true (place + length bytes) file_limit both.1 in
     let part = slot_part image k c.start-at.result c.start-at.ensures.is in
@@ -70,19 +70,19 @@ pub returns : goal.returns
 returns c =
     let image = c.args.image.now in
     let n = c.args.name.now in
-    let k = c.in-ok-k.k in
+    let k = c.in_ok-k.k in
     let bytes = c.args.bytes.now in
     let op = write c.args.place bytes in
-    let found = c.in-ok-k.ensures in
+    let found = c.in_ok-k.ensures in
     let part = slot_part image k c.start-at.result c.start-at.ensures.is in
-    let new = c.put-bytes.new.slot in
-    let long : length new ≡ length (slot image k) = c.put-bytes.auto.slot ∙ ap length part in
+    let new = c.put_bytes.new.slot in
+    let long : length new ≡ length (slot image k) = c.put_bytes.auto.slot ∙ ap length part in
     let whole : length new ≡ slot_size image = long ∙ length_slot image k found.0 in
-    let within = inside c.args.place c.file-length.result (c.args.place + length bytes) _ _ c.slot-at.ensures.is c.file-length.ensures.is _ c.may-write.ensures ∙ c.if-not-may-write.false in
-    let under = leb-true (c.args.place + length bytes) c.room.result (sym c.ends_within.ensures ∙ c.if-not-ends-within.false) in
+    let within = inside c.args.place c.file_length.result (c.args.place + length bytes) _ _ c.slot_at.ensures.is c.file_length.ensures.is _ c.may_write.ensures ∙ c.if-not-may_write.false in
+    let under = leb-true (c.args.place + length bytes) c.room.result (sym c.ends_within.ensures ∙ c.if-not-ends_within.false) in
     let fits = le-ltb (room image) (c.args.place + length bytes) (omega (arith, under, c.room.ensures)) in
-    let does = ap (λ (s : Bytes). Some (overwrite (content s) c.args.place bytes)) (sym part) ∙ sym (ap Some c.put-bytes.ensures.content) in
+    let does = ap (λ (s : Bytes). Some (overwrite (content s) c.args.place bytes)) (sym part) ∙ sym (ap Some c.put_bytes.ensures.content) in
     record {
       answer = sym (answer_room image n op k _ false found refl within fits);
-      left = done_changed image n k new _ found.0 whole (slot_write image new k c.start-at.result c.start-at.ensures.is whole) op found long (c.put-bytes.ensures.name ∙ ap (take 33) part) (λ was is e. e) does;
+      left = done_changed image n k new _ found.0 whole (slot_write image new k c.start-at.result c.start-at.ensures.is whole) op found long (c.put_bytes.ensures.name ∙ ap (take 33) part) (λ was is e. e) does;
     }

@@ -3,10 +3,10 @@ use Rattle.std.proofs.lemmas.Bool.Decides.{nat_tests}
 use Rattle.journal.specs.Judged.{spent}
 use Rattle.journal.proofs.header.is_spent.Goals as goal
 
-pub returns-then-not-has-magic : goal.returns-then-not-has-magic
+pub returns-then-not-has_magic : goal.returns-then-not-has_magic
 unfolding spent
-returns-then-not-has-magic c = grind (arith, nat_tests)
+returns-then-not-has_magic c = grind (arith, nat_tests)
 
-pub returns-else-not-has-magic : goal.returns-else-not-has-magic
+pub returns-else-not-has_magic : goal.returns-else-not-has_magic
 unfolding spent
-returns-else-not-has-magic c = grind (arith, nat_tests)
+returns-else-not-has_magic c = grind (arith, nat_tests)

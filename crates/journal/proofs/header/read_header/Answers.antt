@@ -19,14 +19,14 @@ right b padding c n z t p are pad =
 
 pub returns-then-not-holds : goal.returns-then-not-holds
 returns-then-not-holds c =
-    right c.args.bytes.now c.take-apart-front.result.padding.now _ _ _ _ _ c.take-apart-front.ensures.numbers c.take-apart-front.ensures.padding
+    right c.args.bytes.now c.take_apart-front.result.padding.now _ _ _ _ _ c.take_apart-front.ensures.numbers c.take_apart-front.ensures.padding
     ∙ sym c.holds.ensures ∙ c.if-not-holds.true
 
 pub returns : goal.returns
 returns c =
     let b = c.args.bytes.now in
-    let are = c.take-apart-front.ensures.numbers in (
-      right b c.take-apart-front.result.padding.now _ _ _ _ _ are c.take-apart-front.ensures.padding ∙ sym c.holds.ensures ∙ c.if-not-holds.false,
+    let are = c.take_apart-front.ensures.numbers in (
+      right b c.take_apart-front.result.padding.now _ _ _ _ _ are c.take_apart-front.ensures.padding ∙ sym c.holds.ensures ∙ c.if-not-holds.false,
       record {
         count = are.count ∙ number_take b 512 8 (omega arith);
         nonce = are.nonce ∙ number_take b 512 12 (omega arith);

@@ -5,4 +5,4 @@ use Rattle.journal.specs.Format.{magic}
 use Rattle.journal.proofs.layout.has_magic.Goals as goal
 
 pub returns : goal.returns
-returns c = same_from_decides _ _ (slice_eq-Decides Decides-eqb magic (take 8 c.args.bytes.now) _ c.starts-with.ensures.value) (bytes_eq-Decides magic (take 8 c.args.bytes.now))
+returns c = same_from_decides _ _ (slice_eq-Decides Decides-eqb magic (take 8 c.args.bytes.now) _ c.starts_with.ensures.value) (bytes_eq-Decides magic (take 8 c.args.bytes.now))

@@ -14,9 +14,9 @@ unfolding super_right
 returns-then-number-sum c =
     let b = c.args.bytes.now in
     let n = length b - 20 in
-    let sum : c.byte-sum-sum.result ≡ total (part b 4 n) = c.byte-sum-sum.ensures ∙ ap (λ (m : ℕ). total (take m (drop 4 b))) (omega arith) in
-    let ends : c.has-magic.result ≡ bytes_eq magic (part b (12 + n) 8) =
-    c.has-magic.ensures ∙ ap (λ (s : Bytes). bytes_eq magic (take 8 s)) (take_rest b (12 + n)) in
+    let sum : c.byte_sum-sum.result ≡ total (part b 4 n) = c.byte_sum-sum.ensures ∙ ap (λ (m : ℕ). total (take m (drop 4 b))) (omega arith) in
+    let ends : c.has_magic.result ≡ bytes_eq magic (part b (12 + n) 8) =
+    c.has_magic.ensures ∙ ap (λ (s : Bytes). bytes_eq magic (take 8 s)) (take_rest b (12 + n)) in
     grind (arith, nat_tests, sum, ends)
 
 pub returns-else-number-sum : goal.returns-else-number-sum
@@ -24,5 +24,5 @@ unfolding super_right
 returns-else-number-sum c =
     let b = c.args.bytes.now in
     let n = length b - 20 in
-    let sum : c.byte-sum-sum.result ≡ total (part b 4 n) = c.byte-sum-sum.ensures ∙ ap (λ (m : ℕ). total (take m (drop 4 b))) (omega arith) in
+    let sum : c.byte_sum-sum.result ≡ total (part b 4 n) = c.byte_sum-sum.ensures ∙ ap (λ (m : ℕ). total (take m (drop 4 b))) (omega arith) in
     grind (arith, nat_tests, sum)

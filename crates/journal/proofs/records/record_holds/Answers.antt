@@ -11,8 +11,8 @@ unfolding record_right
 returns-then-number-header c =
     let b = c.args.bytes.now in
     let k = c.args.index in
-    let at = c.record-place-place.result in
-    let is : at ≡ record_place k = c.record-place-place.ensures in
+    let at = c.record_place-place.result in
+    let is : at ≡ record_place k = c.record_place-place.ensures in
     let long : at + 516 - (at + 4) ≡ 512 = omega arith in
     let from : at + 4 ≡ record_place k + 4 = omega arith in
     let page : take (at + 516 - (at + 4)) (drop (at + 4) b) ≡ page_bytes b k = ap₂ (λ (n m : ℕ). take n (drop m b)) long from in
@@ -26,6 +26,6 @@ unfolding record_right
 returns-else-number-header c =
     let b = c.args.bytes.now in
     let k = c.args.index in
-    let at = c.record-place-place.result in
-    let page-number : number_at b at ≡ number_at b (record_place k) = ap (number_at b) c.record-place-place.ensures in
+    let at = c.record_place-place.result in
+    let page-number : number_at b at ≡ number_at b (record_place k) = ap (number_at b) c.record_place-place.ensures in
     grind (arith, nat_tests, page-number)

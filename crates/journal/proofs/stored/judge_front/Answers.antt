@@ -5,15 +5,15 @@ use Rattle.journal.specs.Judged.{Judged, spent}
 use Rattle.journal.proofs.Longer.{spent_front, longer}
 use Rattle.journal.proofs.stored.judge_front.Goals as goal
 
-pub returns-then-length-le-JOURNAL-LIMIT : goal.returns-then-length-le-JOURNAL-LIMIT
-returns-then-length-le-JOURNAL-LIMIT c =
+pub returns-then-length-le-JOURNAL_LIMIT : goal.returns-then-length-le-JOURNAL_LIMIT
+returns-then-length-le-JOURNAL_LIMIT c =
     λ b long front. subst (λ (x : Bytes). Judged x c.judge.result) (sym (sym (take_all 17724 b (omega arith)) ∙ front)) c.judge.ensures.judged
 
-pub returns-then-is-spent : goal.returns-then-is-spent
+pub returns-then-is_spent : goal.returns-then-is_spent
 unfolding Judged
-returns-then-is-spent c =
-    λ b long front. sym (spent_front b (omega arith)) ∙ ap spent front ∙ sym c.is-spent.ensures ∙ c.if-is-spent.true
+returns-then-is_spent c =
+    λ b long front. sym (spent_front b (omega arith)) ∙ ap spent front ∙ sym c.is_spent.ensures ∙ c.if-is_spent.true
 
 pub returns : goal.returns
 returns c =
-    λ b long front. longer b (omega arith) (sym (spent_front b (omega arith)) ∙ ap spent front ∙ sym c.is-spent.ensures ∙ c.if-is-spent.false)
+    λ b long front. longer b (omega arith) (sym (spent_front b (omega arith)) ∙ ap spent front ∙ sym c.is_spent.ensures ∙ c.if-is_spent.false)

@@ -9,62 +9,62 @@ use Rattle.journal.proofs.Laws.{journal_laws}
 use Rattle.journal.proofs.Verdicts.{unspent_long, length_by, unreadable, wrong_record, ends_within, name_room, bad_name, sound_alone, sound_named}
 use Rattle.journal.proofs.verdict.judge.Goals as goal
 
-pub returns-then-is-spent : goal.returns-then-is-spent
+pub returns-then-is_spent : goal.returns-then-is_spent
 unfolding Judged
-returns-then-is-spent c = record { judged = sym c.is-spent.ensures ∙ c.if-is-spent.true; laws = journal_laws }
+returns-then-is_spent c = record { judged = sym c.is_spent.ensures ∙ c.if-is_spent.true; laws = journal_laws }
 
-pub read-header-requires : goal.read-header-requires
-read-header-requires c = unspent_long c.args.bytes.now (sym c.is-spent.ensures ∙ c.if-is-spent.false)
+pub read_header-requires : goal.read_header-requires
+read_header-requires c = unspent_long c.args.bytes.now (sym c.is_spent.ensures ∙ c.if-is_spent.false)
 
-pub returns-in-default : goal.returns-in-default
-returns-in-default c =
-    record { judged = unreadable c.args.bytes.now (sym c.is-spent.ensures ∙ c.if-is-spent.false) (and_left _ _ c.in-default.ensures); laws = journal_laws }
+pub returns-in_default : goal.returns-in_default
+returns-in_default c =
+    record { judged = unreadable c.args.bytes.now (sym c.is_spent.ensures ∙ c.if-is_spent.false) (and_left _ _ c.in_default.ensures); laws = journal_laws }
 
-pub returns-then-not-length-holds : goal.returns-then-not-length-holds
-returns-then-not-length-holds c =
+pub returns-then-not-length_holds : goal.returns-then-not-length_holds
+returns-then-not-length_holds c =
     let b = c.args.bytes.now in
     let is = c.in-Some.ensures in
-    let short : length_right b ≡ false = sym (length_by b _ is.1.count) ∙ sym c.length-holds.ensures ∙ c.if-not-length-holds.true in
-    record { judged = unreadable b (sym c.is-spent.ensures ∙ c.if-is-spent.false) (and_right _ _ short); laws = journal_laws }
+    let short : length_right b ≡ false = sym (length_by b _ is.1.count) ∙ sym c.length_holds.ensures ∙ c.if-not-length_holds.true in
+    record { judged = unreadable b (sym c.is_spent.ensures ∙ c.if-is_spent.false) (and_right _ _ short); laws = journal_laws }
 
 pub returns-then-wrong-gt0 : goal.returns-then-wrong-gt0
 returns-then-wrong-gt0 c =
     let b = c.args.bytes.now in
     let is = c.in-Some.ensures in
-    let long : length_right b ≡ true = sym (length_by b _ is.1.count) ∙ sym c.length-holds.ensures ∙ c.if-not-length-holds.false in
+    let long : length_right b ≡ true = sym (length_by b _ is.1.count) ∙ sym c.length_holds.ensures ∙ c.if-not-length_holds.false in
     record {
       judged =
-          wrong_record b (sym c.is-spent.ensures ∙ c.if-is-spent.false) c.first-wrong-wrong.result (and_from _ _ is.0 long)
-          (subst (λ (n : ℕ). FirstWrong b n c.first-wrong-wrong.result) is.1.count c.first-wrong-wrong.ensures) c.if-wrong-gt0.true;
+          wrong_record b (sym c.is_spent.ensures ∙ c.if-is_spent.false) c.first_wrong-wrong.result (and_from _ _ is.0 long)
+          (subst (λ (n : ℕ). FirstWrong b n c.first_wrong-wrong.result) is.1.count c.first_wrong-wrong.ensures) c.if-wrong-gt0.true;
       laws = journal_laws;
     }
 
-pub returns-then-not-super-holds : goal.returns-then-not-super-holds
-returns-then-not-super-holds c =
+pub returns-then-not-super_holds : goal.returns-then-not-super_holds
+returns-then-not-super_holds c =
     let b = c.args.bytes.now in
     let is = c.in-Some.ensures in
-    let long : length_right b ≡ true = sym (length_by b _ is.1.count) ∙ sym c.length-holds.ensures ∙ c.if-not-length-holds.false in
-    let at : c.record-place-end.result ≡ record_place (count_of b) = c.record-place-end.ensures ∙ ap record_place is.1.count in
-    let none : c.first-wrong-wrong.result ≡ 0 = omega arith in
-    let right : FirstWrong b (count_of b) 0 = subst (λ (w : ℕ). FirstWrong b (count_of b) w) none (subst (λ (n : ℕ). FirstWrong b n c.first-wrong-wrong.result) is.1.count c.first-wrong-wrong.ensures) in
+    let long : length_right b ≡ true = sym (length_by b _ is.1.count) ∙ sym c.length_holds.ensures ∙ c.if-not-length_holds.false in
+    let at : c.record_place-end.result ≡ record_place (count_of b) = c.record_place-end.ensures ∙ ap record_place is.1.count in
+    let none : c.first_wrong-wrong.result ≡ 0 = omega arith in
+    let right : FirstWrong b (count_of b) 0 = subst (λ (w : ℕ). FirstWrong b (count_of b) w) none (subst (λ (n : ℕ). FirstWrong b n c.first_wrong-wrong.result) is.1.count c.first_wrong-wrong.ensures) in
     let past : super_right (drop (record_place (count_of b)) b) ≡ false =
-    ap super_right (ap (λ (n : ℕ). drop n b) (sym at) ∙ sym (take_rest b c.record-place-end.result)) ∙ sym c.super-holds.ensures ∙ c.if-not-super-holds.true in
-    record { judged = bad_name b (λ k. (c.type-inv.bytes k).fits) (sym c.is-spent.ensures ∙ c.if-is-spent.false) is.0 long right (omega arith) past; laws = journal_laws }
+    ap super_right (ap (λ (n : ℕ). drop n b) (sym at) ∙ sym (take_rest b c.record_place-end.result)) ∙ sym c.super_holds.ensures ∙ c.if-not-super_holds.true in
+    record { judged = bad_name b (λ k. (c.type_inv.bytes k).fits) (sym c.is_spent.ensures ∙ c.if-is_spent.false) is.0 long right (omega arith) past; laws = journal_laws }
 
-pub returns-else-not-super-holds : goal.returns-else-not-super-holds
-returns-else-not-super-holds c =
+pub returns-else-not-super_holds : goal.returns-else-not-super_holds
+returns-else-not-super_holds c =
     let b = c.args.bytes.now in
     let is = c.in-Some.ensures in
-    let long : length_right b ≡ true = sym (length_by b _ is.1.count) ∙ sym c.length-holds.ensures ∙ c.if-not-length-holds.false in
-    let at : c.record-place-end.result ≡ record_place (count_of b) = c.record-place-end.ensures ∙ ap record_place is.1.count in
-    let none : c.first-wrong-wrong.result ≡ 0 = omega arith in
-    let right : FirstWrong b (count_of b) 0 = subst (λ (w : ℕ). FirstWrong b (count_of b) w) none (subst (λ (n : ℕ). FirstWrong b n c.first-wrong-wrong.result) is.1.count c.first-wrong-wrong.ensures) in
+    let long : length_right b ≡ true = sym (length_by b _ is.1.count) ∙ sym c.length_holds.ensures ∙ c.if-not-length_holds.false in
+    let at : c.record_place-end.result ≡ record_place (count_of b) = c.record_place-end.ensures ∙ ap record_place is.1.count in
+    let none : c.first_wrong-wrong.result ≡ 0 = omega arith in
+    let right : FirstWrong b (count_of b) 0 = subst (λ (w : ℕ). FirstWrong b (count_of b) w) none (subst (λ (n : ℕ). FirstWrong b n c.first_wrong-wrong.result) is.1.count c.first_wrong-wrong.ensures) in
     let past : super_right (drop (record_place (count_of b)) b) ≡ true =
-    ap super_right (ap (λ (n : ℕ). drop n b) (sym at) ∙ sym (take_rest b c.record-place-end.result)) ∙ sym c.super-holds.ensures ∙ c.if-not-super-holds.false in
+    ap super_right (ap (λ (n : ℕ). drop n b) (sym at) ∙ sym (take_rest b c.record_place-end.result)) ∙ sym c.super_holds.ensures ∙ c.if-not-super_holds.false in
     record {
       judged =
-          sound_named b (λ k. (c.type-inv.bytes k).fits) (sym c.is-spent.ensures ∙ c.if-is-spent.false) is.0 long right c.in-Some.header is.1 c.record-place-end.result
-          c.record-place-end.ensures (omega arith) past;
+          sound_named b (λ k. (c.type_inv.bytes k).fits) (sym c.is_spent.ensures ∙ c.if-is_spent.false) is.0 long right c.in-Some.header is.1 c.record_place-end.result
+          c.record_place-end.ensures (omega arith) past;
       laws = journal_laws;
     }
 
@@ -72,8 +72,8 @@ pub returns-else-bytes-end : goal.returns-else-bytes-end
 returns-else-bytes-end c =
     let b = c.args.bytes.now in
     let is = c.in-Some.ensures in
-    let long : length_right b ≡ true = sym (length_by b _ is.1.count) ∙ sym c.length-holds.ensures ∙ c.if-not-length-holds.false in
-    let at : c.record-place-end.result ≡ record_place (count_of b) = c.record-place-end.ensures ∙ ap record_place is.1.count in
-    let none : c.first-wrong-wrong.result ≡ 0 = omega arith in
-    let right : FirstWrong b (count_of b) 0 = subst (λ (w : ℕ). FirstWrong b (count_of b) w) none (subst (λ (n : ℕ). FirstWrong b n c.first-wrong-wrong.result) is.1.count c.first-wrong-wrong.ensures) in
-    record { judged = sound_alone b (λ k. (c.type-inv.bytes k).fits) (sym c.is-spent.ensures ∙ c.if-is-spent.false) is.0 long right c.in-Some.header is.1 (omega arith); laws = journal_laws }
+    let long : length_right b ≡ true = sym (length_by b _ is.1.count) ∙ sym c.length_holds.ensures ∙ c.if-not-length_holds.false in
+    let at : c.record_place-end.result ≡ record_place (count_of b) = c.record_place-end.ensures ∙ ap record_place is.1.count in
+    let none : c.first_wrong-wrong.result ≡ 0 = omega arith in
+    let right : FirstWrong b (count_of b) 0 = subst (λ (w : ℕ). FirstWrong b (count_of b) w) none (subst (λ (n : ℕ). FirstWrong b n c.first_wrong-wrong.result) is.1.count c.first_wrong-wrong.ensures) in
+    record { judged = sound_alone b (λ k. (c.type_inv.bytes k).fits) (sym c.is_spent.ensures ∙ c.if-is_spent.false) is.0 long right c.in-Some.header is.1 (omega arith); laws = journal_laws }

@@ -7,7 +7,7 @@ loop-index-init c = sym (sealed_none c.args.buffer.now c.args.nonce c.args.pages
 
 pub loop-index-preserved : goal.loop-index-preserved
 loop-index-preserved c =
-    sealed_more c.args.buffer.now c.args.nonce c.args.pages.now c.loop-index.index c.loop-index.buffer c.seal-record.new.buffer (omega arith) c.requires.room c.loop-index.invariant c.seal-record.ensures
+    sealed_more c.args.buffer.now c.args.nonce c.args.pages.now c.loop-index.index c.loop-index.buffer c.seal_record.new.buffer (omega arith) c.requires.room c.loop-index.invariant c.seal_record.ensures
 
 pub returns : goal.returns
 returns c = c.loop-index.invariant ∙ sealed_all c.args.buffer.now c.args.nonce c.args.pages.now c.loop-index.index (omega arith)

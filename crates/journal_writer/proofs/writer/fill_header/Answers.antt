@@ -9,11 +9,11 @@ use Rattle.journal_writer.proofs.writer.fill_header.Goals as goal
 pub returns : goal.returns
 returns c =
     let put : ℕ → ℕ → Bytes → Bytes = λ place n s. overwrite s place (number_bytes n) in
-    c.put-number-4.ensures
+    c.put_number-4.ensures
     ∙ ap (put 24 512)
-    (c.put-number-3.ensures
+    (c.put_number-3.ensures
     ∙ ap (put 20 512)
-    (c.put-number-2.ensures
+    (c.put_number-2.ensures
     ∙ ap (put 16 c.args.size)
-    (c.put-number.ensures ∙ ap (put 12 c.args.nonce) (c.put-bytes-2.ensures ∙ ap (λ (s : Bytes). overwrite s 0 magic) c.put-bytes.ensures))))
+    (c.put_number.ensures ∙ ap (put 12 c.args.nonce) (c.put_bytes-2.ensures ∙ ap (λ (s : Bytes). overwrite s 0 magic) c.put_bytes.ensures))))
     ∙ header_filled c.args.buffer.now c.args.nonce c.args.size

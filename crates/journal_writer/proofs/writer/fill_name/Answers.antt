@@ -15,12 +15,12 @@ returns c =
     let put : ℕ → ℕ → Bytes → Bytes = λ place k t. overwrite t place (number_bytes k) in
     record {
       put =
-          c.put-bytes-2.ensures
+          c.put_bytes-2.ensures
           ∙ ap (λ (t : Bytes). overwrite t (at + 12 + n) magic)
-          (c.put-number-3.ensures
-          ∙ ap (λ (k : ℕ). put (at + 8 + n) k c.put-number-2.new.buffer) c.byte-sum.ensures
+          (c.put_number-3.ensures
+          ∙ ap (λ (k : ℕ). put (at + 8 + n) k c.put_number-2.new.buffer) c.byte_sum.ensures
           ∙ ap (put (at + 8 + n) _)
-          (c.put-number-2.ensures ∙ ap (put (at + 4 + n) n) (c.put-bytes.ensures ∙ ap (λ (t : Bytes). overwrite t (at + 4) name) c.put-number.ensures)))
+          (c.put_number-2.ensures ∙ ap (put (at + 4 + n) n) (c.put_bytes.ensures ∙ ap (λ (t : Bytes). overwrite t (at + 4) name) c.put_number.ensures)))
           ∙ super_filled s at name c.requires.room;
-      octets = λ k. (c.type-inv.name k).fits;
+      octets = λ k. (c.type_inv.name k).fits;
     }

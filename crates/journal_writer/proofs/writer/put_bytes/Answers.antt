@@ -3,4 +3,4 @@ use Rattle.journal.proofs.Pieces.{put_overwrite}
 use Rattle.journal_writer.proofs.writer.put_bytes.Goals as goal
 
 pub returns : goal.returns
-returns c = put_overwrite c.args.place _ c.args.buffer.now c.copy-from-slice.new.self c.args.bytes.now c.copy-from-slice.ensures.after (omega arith)
+returns c = put_overwrite c.args.place _ c.args.buffer.now c.copy_from_slice.new.self c.args.bytes.now c.copy_from_slice.ensures.after (omega arith)

@@ -5,7 +5,7 @@ use Rattle.journal_writer.proofs.writer.put_name.Goals as goal
 
 pub returns : goal.returns
 returns c = (
-  sym c.is-named.ensures ∙ c.if-not-is-named.false,
+  sym c.is_named.ensures ∙ c.if-not-is_named.false,
   omega arith,
-  c.fill-name.ensures.put ∙ ap (λ (p : ℕ). overwrite c.args.buffer.now p (super_bytes (Some c.args.name.now))) c.record-place-place.ensures,
+  c.fill_name.ensures.put ∙ ap (λ (p : ℕ). overwrite c.args.buffer.now p (super_bytes (Some c.args.name.now))) c.record_place-place.ensures,
 )

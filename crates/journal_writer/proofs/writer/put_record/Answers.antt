@@ -13,14 +13,14 @@ pub returns : goal.returns
 returns c =
     let s = c.args.buffer.now in
     let bytes = c.args.bytes.now in
-    let at = c.record-place-place.result in
-    let lawful = sym c.is-record.ensures ∙ c.if-not-is-record.false in
+    let at = c.record_place-place.result in
+    let lawful = sym c.is_record.ensures ∙ c.if-not-is_record.false in
     let whole : length bytes ≡ 512 = grind (arith, nat_tests, lawful) in (
       lawful,
       omega arith,
-      c.put-number-2.ensures
-          ∙ ap (λ (n : ℕ). overwrite c.put-bytes.new.buffer (at + 516) (number_bytes n)) c.checksum-sum.ensures
-          ∙ ap (λ (t : Bytes). overwrite t (at + 516) (number_bytes (checksum c.args.nonce bytes))) (c.put-bytes.ensures ∙ ap (λ (t : Bytes). overwrite t (at + 4) bytes) c.put-number.ensures)
+      c.put_number-2.ensures
+          ∙ ap (λ (n : ℕ). overwrite c.put_bytes.new.buffer (at + 516) (number_bytes n)) c.checksum-sum.ensures
+          ∙ ap (λ (t : Bytes). overwrite t (at + 516) (number_bytes (checksum c.args.nonce bytes))) (c.put_bytes.ensures ∙ ap (λ (t : Bytes). overwrite t (at + 4) bytes) c.put_number.ensures)
           ∙ record_filled s at c.args.nonce c.args.page bytes whole (omega arith)
-          ∙ ap (λ (p : ℕ). overwrite s p (record_bytes c.args.nonce (record { page = c.args.page; bytes = bytes }))) c.record-place-place.ensures,
+          ∙ ap (λ (p : ℕ). overwrite s p (record_bytes c.args.nonce (record { page = c.args.page; bytes = bytes }))) c.record_place-place.ensures,
     )

@@ -8,8 +8,8 @@ pub loop-i-init : goal.loop-i-init
 unfolding counted
 loop-i-init c = (refl, omega arith)
 
-pub overflow-add-n : goal.overflow-add-n
-overflow-add-n c =
+pub overflow_add-n : goal.overflow_add-n
+overflow_add-n c =
     let f : get_or c.args.self.now.words c.loop-i.i 0 < 2 ^ 64 = omega arith in
     omega (arith, ones-le 64 (get_or c.args.self.now.words c.loop-i.i 0) f)
 

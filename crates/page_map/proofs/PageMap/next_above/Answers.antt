@@ -6,13 +6,13 @@ use Rattle.page_map.proofs.Nexts.{Clear, next_page, no_page, first_here, first_w
 use Rattle.page_map.proofs.Visits.{visit_law}
 use Rattle.page_map.proofs.PageMap.next_above.Goals as goal
 
-pub returns-then-page-ge-PAGE-LIMIT : goal.returns-then-page-ge-PAGE-LIMIT
-returns-then-page-ge-PAGE-LIMIT c =
+pub returns-then-page-ge-PAGE_LIMIT : goal.returns-then-page-ge-PAGE_LIMIT
+returns-then-page-ge-PAGE_LIMIT c =
     let ws = c.args.self.now.words in
     record { next = no_page ws c.args.page (omega arith) (λ k a b. absurd (omega arith)); visit = visit_law (pages_of ws) }
 
-pub overflow-add-result : goal.overflow-add-result
-overflow-add-result c = let d = div-add-mod' c.args.page 64 in omega (arith, (first_here c.args.self.now.words c.args.page (omega arith) (λ z. omega arith)).1)
+pub overflow_add-result : goal.overflow_add-result
+overflow_add-result c = let d = div-add-mod' c.args.page 64 in omega (arith, (first_here c.args.self.now.words c.args.page (omega arith) (λ z. omega arith)).1)
 
 pub returns-then-first-ne0 : goal.returns-then-first-ne0
 returns-then-first-ne0 c =

@@ -11,40 +11,40 @@ pub loop-k-init : goal.loop-k-init
 unfolding super_journal_bytes
 loop-k-init c = (sym (filled_none c.args.buffer.now), refl)
 
-pub put-bytes-requires : goal.put-bytes-requires
-put-bytes-requires c =
+pub put_bytes-requires : goal.put_bytes-requires
+put_bytes-requires c =
     let ns = texts c.args.names.now in
     let k = c.loop-k.k in
     let n = length_texts c.args.names.now in
     let size = ap length (text_at c.args.names.now k) in
     omega (arith, length_more ns k (omega arith), length_front ns (k + 1), c.requires.room)
 
-pub overflow-add-at : goal.overflow-add-at
-overflow-add-at c =
+pub overflow_add-at : goal.overflow_add-at
+overflow_add-at c =
     let ns = texts c.args.names.now in
     let k = c.loop-k.k in
     let n = length_texts c.args.names.now in
     let size = ap length (text_at c.args.names.now k) in
     record { fits = omega (arith, length_more ns k (omega arith), length_front ns (k + 1), c.requires.room) }
 
-pub put-bytes-requires-in-loop-k : goal.put-bytes-requires-in-loop-k
-put-bytes-requires-in-loop-k c =
+pub put_bytes-requires-in-loop-k : goal.put_bytes-requires-in-loop-k
+put_bytes-requires-in-loop-k c =
     let ns = texts c.args.names.now in
     let k = c.loop-k.k in
     let n = length_texts c.args.names.now in
     let size = ap length (text_at c.args.names.now k) in
     omega (arith, length_more ns k (omega arith), length_front ns (k + 1), c.requires.room)
 
-pub overflow-add-at-in-loop-k : goal.overflow-add-at-in-loop-k
-overflow-add-at-in-loop-k c =
+pub overflow_add-at-in-loop-k : goal.overflow_add-at-in-loop-k
+overflow_add-at-in-loop-k c =
     let ns = texts c.args.names.now in
     let k = c.loop-k.k in
     let n = length_texts c.args.names.now in
     let size = ap length (text_at c.args.names.now k) in
     record { fits = omega (arith, length_more ns k (omega arith), length_front ns (k + 1), c.requires.room) }
 
-pub overflow-add-at-in-loop-k-2 : goal.overflow-add-at-in-loop-k-2
-overflow-add-at-in-loop-k-2 c =
+pub overflow_add-at-in-loop-k-2 : goal.overflow_add-at-in-loop-k-2
+overflow_add-at-in-loop-k-2 c =
     let ns = texts c.args.names.now in
     let k = c.loop-k.k in
     let n = length_texts c.args.names.now in
@@ -60,9 +60,9 @@ loop-k-preserved c =
     let size = ap length name in
     let at = c.loop-k.at in
     let inside : k < length ns = omega arith in (
-      filled_more c.args.buffer.now c.loop-k.buffer c.put-bytes.new.buffer c.put-bytes-in-loop-k.new.buffer ns k inside c.requires.room c.loop-k.invariant.0 at c.loop-k.invariant.1
-          (c.put-bytes.ensures ∙ ap (overwrite c.loop-k.buffer at) (sym name))
-          (c.put-bytes-in-loop-k.ensures ∙ ap (λ (m : ℕ). overwrite c.put-bytes.new.buffer (at + m) (0 ∷ [])) (sym size)),
+      filled_more c.args.buffer.now c.loop-k.buffer c.put_bytes.new.buffer c.put_bytes-in-loop-k.new.buffer ns k inside c.requires.room c.loop-k.invariant.0 at c.loop-k.invariant.1
+          (c.put_bytes.ensures ∙ ap (overwrite c.loop-k.buffer at) (sym name))
+          (c.put_bytes-in-loop-k.ensures ∙ ap (λ (m : ℕ). overwrite c.put_bytes.new.buffer (at + m) (0 ∷ [])) (sym size)),
       omega (arith, length_more ns k inside, size),
     )
 

@@ -12,18 +12,18 @@ returns-then-names-lt1 c =
     let n = length_texts c.args.names.now in
     (λ t. absurd (false≢true t), λ ok. absurd (⊎_elim (λ h. omega (arith, ok.some)) (λ h. omega (arith, ok.few)) c.then-names-lt1.either))
 
-pub returns-then-not-is-plain : goal.returns-then-not-is-plain
-returns-then-not-is-plain c =
+pub returns-then-not-is_plain : goal.returns-then-not-is_plain
+returns-then-not-is_plain c =
     let n = length_texts c.args.names.now in
     let at = text_at c.args.names.now c.loop-k.k in (
       λ t. absurd (false≢true t),
-      λ ok. absurd (not_from_Decides _ c.is-plain.ensures c.if-not-is-plain.true (subst (λ (w : Bytes). Plain w) at (each_all (texts c.args.names.now) ok.each c.loop-k.k (omega arith)))),
+      λ ok. absurd (not_from_Decides _ c.is_plain.ensures c.if-not-is_plain.true (subst (λ (w : Bytes). Plain w) at (each_all (texts c.args.names.now) ok.each c.loop-k.k (omega arith)))),
     )
 
 pub loop-k-preserved : goal.loop-k-preserved
 loop-k-preserved c =
     let at = text_at c.args.names.now c.loop-k.k in
-    below_more _ _ c.loop-k.invariant (subst (λ (w : Bytes). Plain w) (sym at) (c.is-plain.ensures.0 c.if-not-is-plain.false))
+    below_more _ _ c.loop-k.invariant (subst (λ (w : Bytes). Plain w) (sym at) (c.is_plain.ensures.0 c.if-not-is_plain.false))
 
 pub returns : goal.returns
 returns c =

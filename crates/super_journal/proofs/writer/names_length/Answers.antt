@@ -10,8 +10,8 @@ pub loop-k-init : goal.loop-k-init
 unfolding super_journal_bytes
 loop-k-init c = (refl, omega arith)
 
-pub overflow-add-total : goal.overflow-add-total
-overflow-add-total c =
+pub overflow_add-total : goal.overflow_add-total
+overflow_add-total c =
     let ns = texts c.args.names.now in
     let k = c.loop-k.k in
     let n = length_texts c.args.names.now in
@@ -19,8 +19,8 @@ overflow-add-total c =
     let short = (each_all ns c.requires.each k (omega arith)).short in
     record { fits = omega arith }
 
-pub overflow-add-total-in-loop-k : goal.overflow-add-total-in-loop-k
-overflow-add-total-in-loop-k c =
+pub overflow_add-total-in-loop-k : goal.overflow_add-total-in-loop-k
+overflow_add-total-in-loop-k c =
     let ns = texts c.args.names.now in
     let k = c.loop-k.k in
     let n = length_texts c.args.names.now in

@@ -6,13 +6,13 @@ use Rattle.delayed_card.proofs.delayed.DelayedCardCard.write.Goals as goal
 
 pub returns : goal.returns
 returns c =
-    let is = still c.at-call-lost.result c.is-none-self.result c.is-none-self.ensures in
+    let is = still c.at_call-lost.result c.is_none-self.result c.is_none-self.ensures in
     record {
       answered =
           delayed_answered (λ k. k.on) (λ k. half k.current.bytes.now k.synced.bytes.now) (λ k. half k.synced.bytes.now k.current.bytes.now) (λ k. k.origin) c.args.self.now _ (write c.args.place c.args.bytes.now) c.args.name.now
-          c.at-call-lost.result c.write-answer.result c.blame.result c.if-not-self.false is refl c.write-answer.ensures c.blame.ensures;
+          c.at_call-lost.result c.write-answer.result c.blame.result c.if-not-self.false is refl c.write-answer.ensures c.blame.ensures;
       delayed =
-          delayed_exact (write c.args.place c.args.bytes.now) c.args.name.now c.args.self.now.on c.is-none-self.result c.args.self.now.cut c.after-call-self.result c.args.self.now.origin _ _ _ _
-          c.at-call-lost.result c.write-answer.result c.blame.result c.if-not-self.false is c.at-call-lost.ensures c.after-call-self.ensures c.write-answer.ensures c.blame.ensures;
+          delayed_exact (write c.args.place c.args.bytes.now) c.args.name.now c.args.self.now.on c.is_none-self.result c.args.self.now.cut c.after_call-self.result c.args.self.now.origin _ _ _ _
+          c.at_call-lost.result c.write-answer.result c.blame.result c.if-not-self.false is c.at_call-lost.ensures c.after_call-self.ensures c.write-answer.ensures c.blame.ensures;
       origin = refl;
     }

@@ -5,9 +5,9 @@ use Rattle.journal.specs.Judged.{page_of}
 use Rattle.journal.proofs.InPlace.{has, number_told}
 use Rattle.journal.proofs.verdict.Sound.page_number.Goals as goal
 
-pub returns-then-not-has-record : goal.returns-then-not-has-record
-returns-then-not-has-record c =
-    let none = sym c.has_record.ensures ∙ c.if-not-has-record.true in
+pub returns-then-not-has_record : goal.returns-then-not-has_record
+returns-then-not-has_record c =
+    let none = sym c.has_record.ensures ∙ c.if-not-has_record.true in
     record { is = none; told = λ j of lt. absurd (both_ways _ none (has c.args.bytes.now c.args.self.now j of c.args.index lt)) }
 
 pub returns : goal.returns
