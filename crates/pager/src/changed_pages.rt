@@ -1,5 +1,5 @@
 // The store of changed pages: 32 in all, for all databases together.
-ghost use Rattle.std.specs.Prelude.{◌≡◌, ℕ, ◌+◌, ◌<◌, ◌≤◌, Bool, true, false, ◌&&◌, [], length, take, is_some, if◌then◌else◌, Some, None, MatchOption, ◌==◌, nat_eq};
+ghost use Rattle.std.specs.Prelude.{◌≡◌, ℕ, ◌+◌, ◌<◌, ◌≤◌, Bool, true, false, cond, ◌&&◌, [], length, take, is_some, if◌then◌else◌, Some, None, MatchOption, ◌==◌, nat_eq};
 ghost use Rattle.std.specs.Option.{option_map};
 ghost use Rattle.pager.specs.Changed.{is_row, look, Found, Nowhere, Whole};
 

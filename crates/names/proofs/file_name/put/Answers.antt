@@ -7,6 +7,6 @@ returns c =
     let a = c.args.place in
     let row = c.args.row.now in
     let bytes = c.args.bytes.now in
-    let is = c.copy-from-slice.ensures.after in
-    take-put_mid a (a + length bytes - a) row c.copy-from-slice.new.self (a + length bytes) (ap (λ (x : List ℕ). a + length x) (sym is)) (omega arith)
+    let is = c.copy_from_slice.ensures.after in
+    take-put_mid a (a + length bytes - a) row c.copy_from_slice.new.self (a + length bytes) (ap (λ (x : List ℕ). a + length x) (sym is)) (omega arith)
     ∙ ap (λ (x : List ℕ). take a row ++ x) is

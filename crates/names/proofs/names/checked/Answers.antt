@@ -20,21 +20,21 @@ returns-then-list-eq0 c =
 pub returns-in-Some : goal.returns-in-Some
 returns-in-Some c = (counted _ _ (length_texts c.args.list.now) (omega arith) (omega arith), c.in-Some.ensures)
 
-pub returns-in-Some-first-odd : goal.returns-in-Some-first-odd
-returns-in-Some-first-odd c =
-    (counted _ _ (length_texts c.args.list.now) (omega arith) (omega arith), c.in-default.ensures, c.in-Some-first-odd.ensures)
+pub returns-in-Some-first_odd : goal.returns-in-Some-first_odd
+returns-in-Some-first_odd c =
+    (counted _ _ (length_texts c.args.list.now) (omega arith) (omega arith), c.in_default.ensures, c.in-Some-first_odd.ensures)
 
-pub returns-then-has-twins : goal.returns-then-has-twins
-returns-then-has-twins c =
+pub returns-then-has_twins : goal.returns-then-has_twins
+returns-then-has_twins c =
     let list = c.args.list.now in (
       counted _ _ (length_texts list) (omega arith) (omega arith),
-      c.in-default.ensures,
-      c.in-default-first-odd.ensures,
-      subst (λ (n : ℕ). (j : ℕ) × ((k : ℕ) × Alike (listed (texts list)) n j k)) (sym (length_texts list)) (c.has-twins.ensures.0 c.if-has-twins.true),
+      c.in_default.ensures,
+      c.in_default-first_odd.ensures,
+      subst (λ (n : ℕ). (j : ℕ) × ((k : ℕ) × Alike (listed (texts list)) n j k)) (sym (length_texts list)) (c.has_twins.ensures.0 c.if-has_twins.true),
     )
 
 pub padded-requires : goal.padded-requires
-padded-requires c = short_name c.args.list.now c.loop-i.i c.in-default.ensures (omega arith)
+padded-requires c = short_name c.args.list.now c.loop-i.i c.in_default.ensures (omega arith)
 
 pub loop-i-preserved : goal.loop-i-preserved
 loop-i-preserved c =
@@ -42,29 +42,18 @@ loop-i-preserved c =
     let e = text_at list c.loop-i.i in
     kept_more c.loop-i.rows c.loop-i.lens c.loop-i.i (texts list) c.padded.result _ c.loop-i.invariant (omega arith) (ap length (sym e)) (c.padded.ensures ∙ sym e)
 
-pub invariant-of-result : goal.invariant-of-result
-invariant-of-result c =
+pub invariant_of-result : goal.invariant_of-result
+invariant_of-result c =
     let list = c.args.list.now in
     let n = length_texts list in
     let e : c.loop-i.i ≡ length list = omega arith in
     let all = subst (λ (i : ℕ). Kept c.loop-i.rows c.loop-i.lens i (texts list)) e c.loop-i.invariant in
     let rows = c.loop-i.rows in
     let lens = c.loop-i.lens in
-    let short = c.in-default.ensures in
-    let plain = c.in-default-first-odd.ensures in
-    let apart : Apart (listed (texts list)) (length list) = λ j k twins. not_from_Decides _ c.has-twins.ensures c.if-has-twins.false (j, (k, twins)) in (
-      omega arith,
-      (
-        omega arith,
-        (
-          rows_some rows lens _ _ all (sym n) short,
-          (
-            rows_few rows lens _ _ all (sym n) short,
-            (∣ rows_plain rows lens _ _ all (sym n) plain ∣₁, (∣ rows_apart rows lens _ _ all (sym n) (omega arith) (omega arith) apart ∣₁, tt)),
-          ),
-        ),
-      ),
-    )
+    let short = c.in_default.ensures in
+    let plain = c.in_default-first_odd.ensures in
+    let apart : Apart (listed (texts list)) (length list) = λ j k twins. not_from_Decides _ c.has_twins.ensures c.if-has_twins.false (j, (k, twins)) in
+    record { some = omega arith; few = omega arith; long = rows_some rows lens _ _ all (sym n) short; short = rows_few rows lens _ _ all (sym n) short; plain = ∣ rows_plain rows lens _ _ all (sym n) plain ∣₁; apart = ∣ rows_apart rows lens _ _ all (sym n) (omega arith) (omega arith) apart ∣₁ }
 
 pub returns : goal.returns
 returns c =
@@ -73,9 +62,9 @@ returns c =
     record {
       count = sym (length_texts list);
       count_ok = counted _ _ (length_texts list) (omega arith) (omega arith);
-      lengths = c.in-default.ensures;
-      bytes = c.in-default-first-odd.ensures;
+      lengths = c.in_default.ensures;
+      bytes = c.in_default-first_odd.ensures;
       apart = subst (λ (n : ℕ). Apart (listed (texts list)) n) (sym (length_texts list))
-          (λ j k twins. not_from_Decides _ c.has-twins.ensures c.if-has-twins.false (j, (k, twins)));
+          (λ j k twins. not_from_Decides _ c.has_twins.ensures c.if-has_twins.false (j, (k, twins)));
       held = λ i lt. c.loop-i.invariant.held i (omega arith);
     }

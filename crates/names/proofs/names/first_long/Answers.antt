@@ -3,18 +3,18 @@ use Rattle.names.specs.Names.{length_ok}
 use Rattle.names.proofs.Texts.{text_at, length_texts}
 use Rattle.names.proofs.names.first_long.Goals as goal
 
-pub returns-then-not-is-short : goal.returns-then-not-is-short
-returns-then-not-is-short c =
+pub returns-then-not-is_short : goal.returns-then-not-is_short
+returns-then-not-is_short c =
     let list = c.args.list.now in
     let n = length_texts list in
     record {
       within = omega arith;
-      bad = ap length_ok (text_at list c.loop-i.i) ∙ sym c.is-short.ensures ∙ c.if-not-is-short.true;
+      bad = ap length_ok (text_at list c.loop-i.i) ∙ sym c.is_short.ensures ∙ c.if-not-is_short.true;
       before = c.loop-i.invariant;
     }
 
 pub loop-i-preserved : goal.loop-i-preserved
-loop-i-preserved c = below_more _ _ c.loop-i.invariant (ap length_ok (text_at c.args.list.now c.loop-i.i) ∙ sym c.is-short.ensures ∙ c.if-not-is-short.false)
+loop-i-preserved c = below_more _ _ c.loop-i.invariant (ap length_ok (text_at c.args.list.now c.loop-i.i) ∙ sym c.is_short.ensures ∙ c.if-not-is_short.false)
 
 pub returns : goal.returns
 returns c i lt = let n = length_texts c.args.list.now in c.loop-i.invariant i (omega arith)

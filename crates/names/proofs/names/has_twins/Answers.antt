@@ -4,17 +4,17 @@ use Rattle.std.proofs.lemmas.Bool.Decides.{not_from_Decides}
 use Rattle.names.proofs.Files.{file_last}
 use Rattle.names.proofs.names.has_twins.Goals as goal
 
-pub returns-then-is-taken : goal.returns-then-is-taken
-returns-then-is-taken c =
-    let twin = c.is-taken.ensures.0 c.if-is-taken.true in
+pub returns-then-is_taken : goal.returns-then-is_taken
+returns-then-is_taken c =
+    let twin = c.is_taken.ensures.0 c.if-is_taken.true in
     (λ _. (twin.0, (c.loop-k.k, twin.1)), λ _. refl)
 
 pub loop-k-preserved : goal.loop-k-preserved
 loop-k-preserved c =
     below_more _ _ c.loop-k.invariant
-    (elim c.else-is-file.branch [
-      | goal.else-is-file-via-then-is-file+else-is-taken w ↦ λ j twins. not_from_Decides _ w.is-taken.ensures w.if-is-taken.false (j, twins)
-      | goal.else-is-file-via-else-is-file w ↦ λ j twins. both_ways c.is_file.result w.if-is-file.false (c.is_file.ensures ∙ twins.1)
+    (elim c.else-is_file.branch [
+      | goal.else-is_file-via-then-is_file+else-is_taken w ↦ λ j twins. not_from_Decides _ w.is_taken.ensures w.if-is_taken.false (j, twins)
+      | goal.else-is_file-via-else-is_file w ↦ λ j twins. both_ways c.is_file.result w.if-is_file.false (c.is_file.ensures ∙ twins.1)
     ])
 
 pub returns : goal.returns

@@ -4,4 +4,4 @@ use Rattle.names.proofs.names.padded.Goals as goal
 
 pub returns : goal.returns
 returns c =
-    take_at c.copy-from-slice.new.self _ (length c.args.name.now) (ap length c.copy-from-slice.ensures.after) ∙ c.copy-from-slice.ensures.after
+    take_at c.copy_from_slice.new.self _ (length c.args.name.now) (ap length c.copy_from_slice.ensures.after) ∙ c.copy_from_slice.ensures.after

@@ -5,16 +5,16 @@ use Rattle.pager.specs.View.{fields}
 use Rattle.pager.proofs.Keeps.{in_all}
 use Rattle.pager.proofs.memory.Memory.lacks_changed_room.Goals as goal
 
-pub returns-then-is-full : goal.returns-then-is-full
+pub returns-then-is_full : goal.returns-then-is_full
 unfolding map_of
-returns-then-is-full c =
+returns-then-is_full c =
     let m = c.args.self.now in
     let all = in_all m.maps m.changed.used (fields m).changed (fields m).saved m.levels m.sound in
-    let full = ap (λ (n : ℕ). eqb n 32) (sym all) ∙ sym c.is-full.ensures ∙ c.if-is-full.true in
+    let full = ap (λ (n : ℕ). eqb n 32) (sym all) ∙ sym c.is_full.ensures ∙ c.if-is_full.true in
     sym (ap₂ (λ (a b : Bool). a && not b) full (sym c.contains.ensures))
 
-pub returns-else-is-full : goal.returns-else-is-full
-returns-else-is-full c =
+pub returns-else-is_full : goal.returns-else-is_full
+returns-else-is_full c =
     let m = c.args.self.now in
     let all = in_all m.maps m.changed.used (fields m).changed (fields m).saved m.levels m.sound in
-    c.if-is-full.false ∙ sym (and_left _ _ (ap (λ (n : ℕ). eqb n 32) (sym all) ∙ sym c.is-full.ensures ∙ c.if-is-full.false))
+    c.if-is_full.false ∙ sym (and_left _ _ (ap (λ (n : ℕ). eqb n 32) (sym all) ∙ sym c.is_full.ensures ∙ c.if-is_full.false))

@@ -6,13 +6,13 @@ use Rattle.pager.specs.View.{held_now, stack}
 use Rattle.pager.proofs.Fresh.{maps_empty, sound_fresh, view_fresh}
 use Rattle.pager.proofs.memory.Memory.new.Goals as goal
 
-pub invariant-of-result : goal.invariant-of-result
-invariant-of-result c =
+pub invariant_of-result : goal.invariant_of-result
+invariant_of-result c =
     let maps = replicate 4 c.new.result in
     let changed : take c.new-2.result.used c.new-2.result.rows ≡ [] = ap (λ (n : ℕ). take n c.new-2.result.rows) c.new-2.ensures in
     let saved : take c.new-3.result.used c.new-3.result.rows ≡ [] = ap (λ (n : ℕ). take n c.new-3.result.rows) c.new-3.ensures in
     let empty = sound_fresh maps (maps_empty c.new.result c.new.ensures) in
-    (omega arith, (omega arith, (∣ subst (λ (l : List ChangedPage). Sound maps c.new-2.result.used l (take c.new-3.result.used c.new-3.result.rows) 0) (sym changed) (subst (λ (l : List SavedPage). Sound maps c.new-2.result.used [] l 0) (sym saved) (subst (λ (n : ℕ). Sound maps n [] [] 0) (sym c.new-2.ensures) empty)) ∣₁, tt)))
+    record { few = omega arith; low = omega arith; sound = ∣ subst (λ (l : List ChangedPage). Sound maps c.new-2.result.used l (take c.new-3.result.used c.new-3.result.rows) 0) (sym changed) (subst (λ (l : List SavedPage). Sound maps c.new-2.result.used [] l 0) (sym saved) (subst (λ (n : ℕ). Sound maps n [] [] 0) (sym c.new-2.ensures) empty)) ∣₁ }
 
 pub returns : goal.returns
 unfolding stack

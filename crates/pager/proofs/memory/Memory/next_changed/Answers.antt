@@ -8,4 +8,4 @@ returns-then-database-self c = record { next = (omega arith, refl); visit = visi
 
 pub returns : goal.returns
 unfolding map_of
-returns c = record { next = (omega arith, c.next-above.ensures.next); visit = visit_law (map_of c.args.self.now.maps c.args.database) }
+returns c = record { next = (omega arith, c.next_above.ensures.next); visit = visit_law (map_of c.args.self.now.maps c.args.database) }

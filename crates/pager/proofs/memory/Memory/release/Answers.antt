@@ -21,27 +21,19 @@ returns-then-not-stands c = record {
   law = release_law;
 }
 
-pub invariant-of-self : goal.invariant-of-self
-invariant-of-self c =
+pub invariant_of-self : goal.invariant_of-self
+invariant_of-self c =
     let m = c.args.self.now in
     let s = c.args.s in
     let is = sym c.stands.ensures ∙ c.if-not-stands.false in
     let low = leb-true 1 s (and_parts (leb 1 s) (leb s m.levels) is).0 in
-    let high = leb-true s m.levels (and_parts (leb 1 s) (leb s m.levels) is).1 in (
-      m.few,
-      (
-        omega arith,
-        (
-          ∥∥₁_map m.sound
+    let high = leb-true s m.levels (and_parts (leb 1 s) (leb s m.levels) is).1 in
+    record { few = m.few; low = omega arith; sound = ∥∥₁_map m.sound
               (λ old. record {
                 link = old.link;
                 all = old.all;
-                below = λ d p. ap (λ (l : List SavedPage). has_from (suc (s - 1)) l d p) c.passed-down-saved.ensures ∙ sound_released (λ _. []) (fields m) s m.levels low high old.below d p;
-              }),
-          tt,
-        ),
-      ),
-    )
+                below = λ d p. ap (λ (l : List SavedPage). has_from (suc (s - 1)) l d p) c.passed_down-saved.ensures ∙ sound_released (λ _. []) (fields m) s m.levels low high old.below d p;
+              }) }
 
 pub returns : goal.returns
 unfolding passed_fields
@@ -58,9 +50,9 @@ returns c =
       kept = λ some. absurd (some refl);
       count = refl;
       done = λ _ files.
-          let st = ap (λ (l : List SavedPage). stack files (with l) (s - 1)) c.passed-down-saved.ensures ∙ stack_released files (fields m) s m.levels low high below in
+          let st = ap (λ (l : List SavedPage). stack files (with l) (s - 1)) c.passed_down-saved.ensures ∙ stack_released files (fields m) s m.levels low high below in
           λ i. record { held = held_now files (fields m); savepoints = st i };
-      saved = λ _. c.passed-down-saved.ensures;
+      saved = λ _. c.passed_down-saved.ensures;
       changed = refl;
       law = release_law;
     }

@@ -10,18 +10,18 @@ use Rattle.pager.proofs.memory.Memory.write.Goals as goal
 pub put-requires : goal.put-requires
 put-requires c none =
     room c.args.self.now c.args.database c.args.page (length c.args.bytes.now) (omega arith) (omega arith) c.args.self.now.sound
-    (allowed _ _ _ _ (sym c.in-default.ensures)) none
+    (allowed _ _ _ _ (sym c.in_default.ensures)) none
 
-pub invariant-of-self : goal.invariant-of-self
-invariant-of-self c =
+pub invariant_of-self : goal.invariant_of-self
+invariant_of-self c =
     let m = c.args.self.now in
     let d = c.args.database in
     let p = c.args.page in
-    let ok = allowed m d p (length c.args.bytes.now) (sym c.in-default.ensures) in
+    let ok = allowed m d p (length c.args.bytes.now) (sym c.in_default.ensures) in
     let inside = ok.database in
     let wrote =
-    wrote_from m d p c.args.bytes.now c.copy-from-slice.new.self c.max.result c.insert.new.self c.put.new.self c.saved-first-saved.result (omega arith) (omega arith) (page_is m d p ok.page) c.max.ensures c.insert.ensures c.put.ensures.look c.copy-from-slice.ensures.after c.saved-first-saved.ensures in
-    (m.few, (m.low, (∥∥₁_map m.sound (sound_written (fields m) _ m.levels m.changed.used _ d p c.args.bytes.now wrote (omega arith) (page_is m d p ok.page) c.put.ensures.used), tt)))
+    wrote_from m d p c.args.bytes.now c.copy_from_slice.new.self c.max.result c.insert.new.self c.put.new.self c.saved_first-saved.result (omega arith) (omega arith) (page_is m d p ok.page) c.max.ensures c.insert.ensures c.put.ensures.look c.copy_from_slice.ensures.after c.saved_first-saved.ensures in
+    record { few = m.few; low = m.low; sound = ∥∥₁_map m.sound (sound_written (fields m) _ m.levels m.changed.used _ d p c.args.bytes.now wrote (omega arith) (page_is m d p ok.page) c.put.ensures.used) }
 
 pub returns : goal.returns
 returns c =
@@ -29,14 +29,14 @@ returns c =
     let d = c.args.database in
     let p = c.args.page in
     let bytes = c.args.bytes.now in
-    let ok = allowed m d p (length bytes) (sym c.in-default.ensures) in
+    let ok = allowed m d p (length bytes) (sym c.in_default.ensures) in
     let inside = ok.database in
     let wrote =
-    wrote_from m d p bytes c.copy-from-slice.new.self c.max.result c.insert.new.self c.put.new.self c.saved-first-saved.result (omega arith) (omega arith) (page_is m d p ok.page) c.max.ensures c.insert.ensures c.put.ensures.look c.copy-from-slice.ensures.after c.saved-first-saved.ensures in
+    wrote_from m d p bytes c.copy_from_slice.new.self c.max.result c.insert.new.self c.put.new.self c.saved_first-saved.result (omega arith) (omega arith) (page_is m d p ok.page) c.max.ensures c.insert.ensures c.put.ensures.look c.copy_from_slice.ensures.after c.saved_first-saved.ensures in
     let long = look_long m.changed.rows m.changed.used m.changed.whole in
     let link = linked m.maps m.changed.used (fields m).changed (fields m).saved m.levels m.sound d p (omega arith) in
     record {
-      refusal = c.in-default.ensures;
+      refusal = c.in_default.ensures;
       kept = λ some. absurd (some refl);
       count = refl;
       done = λ _ files.
@@ -44,5 +44,5 @@ returns c =
           let s = stack_written files (fields m) _ m.levels d p bytes wrote (page_low m d p ok.page) (page_high m d p ok.page) ok.length long link in
           λ i. record { held = h i; savepoints = s i };
       used = λ _. c.put.ensures.used ∙ ap (λ (b : Bool). cond b m.changed.used (m.changed.used + 1)) (sym link);
-      saved = λ _. c.saved-first-saved.ensures;
+      saved = λ _. c.saved_first-saved.ensures;
     }

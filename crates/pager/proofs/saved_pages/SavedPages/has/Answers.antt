@@ -8,14 +8,14 @@ use Rattle.pager.proofs.saved_pages.SavedPages.has.Goals as goal
 pub loop-i-init : goal.loop-i-init
 loop-i-init c = has_none c.args.level c.args.database c.args.page
 
-pub returns-then-is-saved : goal.returns-then-is-saved
-returns-then-is-saved c =
+pub returns-then-is_saved : goal.returns-then-is_saved
+returns-then-is_saved c =
     sym (has_at c.args.level c.args.self.now.rows c.args.self.now.used c.args.database c.args.page c.loop-i.i (omega arith) (omega arith)
-    (sym c.is_saved.ensures ∙ c.if-is-saved.true))
+    (sym c.is_saved.ensures ∙ c.if-is_saved.true))
 
 pub loop-i-preserved : goal.loop-i-preserved
 loop-i-preserved c =
     let rows = c.args.self.now.rows in
     ap (λ (l : List SavedPage). has c.args.level l c.args.database c.args.page) (take_more rows c.loop-i.i no_saved (omega arith))
     ∙ has_end c.args.level _ _ c.args.database c.args.page
-    ∙ ap₂ (λ (a b : Bool). a || b) c.loop-i.invariant (sym c.is_saved.ensures ∙ c.if-is-saved.false)
+    ∙ ap₂ (λ (a b : Bool). a || b) c.loop-i.invariant (sym c.is_saved.ensures ∙ c.if-is_saved.false)

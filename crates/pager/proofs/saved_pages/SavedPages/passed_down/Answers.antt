@@ -12,8 +12,8 @@ pub loop-i-preserved : goal.loop-i-preserved
 loop-i-preserved c =
     let rows = c.args.self.now.rows in
     let was = c.loop-i.invariant in (
-      c.add-once.ensures.rows
+      c.add_once.ensures.rows
           ∙ ap₂ (λ (l : List SavedPage) (r : SavedPage). added l r) was.0 c.passed.ensures
           ∙ sym (ap (gathered c.args.s []) (take_more rows c.loop-i.i no_saved (omega arith)) ∙ gathered_end c.args.s [] (take c.loop-i.i rows) (get_or rows c.loop-i.i no_saved)),
-      omega (arith, was.1, c.add-once.ensures.used),
+      omega (arith, was.1, c.add_once.ensures.used),
     )
