@@ -39,14 +39,14 @@ loop-database-preserved g c =
     let super = super_of file c.args.linked in
     let d = c.loop-database.database in
     let lt : d < names.count = omega (arith, c.loop-database-test.true, c.count-database-end.ensures) in
-    elim c.if-is-changed.branch [
-      | goal.then-is-changed+in-ok-make-journal w ↦
+    elim c.if-is_changed.branch [
+      | goal.then-is_changed+in_ok-make_journal w ↦
           subst (λ x. Making m file c.args.nonce super mem rows names.count start (d + 1) x) (sym w.card-is)
-          (making_more m file c.args.nonce super mem rows names.count start d c.loop-database.card w.make-journal.new.card w.get-size.result lt (w.get-size.ensures.is (omega (arith, lt, names.few)))
-          (sym c.is_changed.ensures ∙ w.if-is-changed.true) (λ k low. not_journal names d k lt low) c.loop-database.invariant w.in-ok-make-journal.ensures)
-      | goal.else-is-changed w ↦
+          (making_more m file c.args.nonce super mem rows names.count start d c.loop-database.card w.make_journal.new.card w.get-size.result lt (w.get-size.ensures.is (omega (arith, lt, names.few)))
+          (sym c.is_changed.ensures ∙ w.if-is_changed.true) (λ k low. not_journal names d k lt low) c.loop-database.invariant w.in_ok-make_journal.ensures)
+      | goal.else-is_changed w ↦
           subst (λ x. Making m file c.args.nonce super mem rows names.count start (d + 1) x) (sym w.card-is)
-          (making_skip m file c.args.nonce super mem rows names.count start d c.loop-database.card (sym c.is_changed.ensures ∙ w.if-is-changed.false) c.loop-database.invariant)
+          (making_skip m file c.args.nonce super mem rows names.count start d c.loop-database.card (sym c.is_changed.ensures ∙ w.if-is_changed.false) c.loop-database.invariant)
     ]
 
 pub returns : goal.returns
@@ -62,8 +62,8 @@ returns g c =
     λ stored s.
     round_all m (λ k. journal_tasks file c.args.nonce super (change_of stored rows mem k)) mem start d names.count c.loop-database.card (omega (arith, c.loop-database.auto.database-end, c.loop-database-test.false, c.count-database-end.ensures)) (c.loop-database.invariant.round stored s)
 
-pub returns-in-err-make-journal : goal.returns-in-err-make-journal
-returns-in-err-make-journal g c =
+pub returns-in_err-make_journal : goal.returns-in_err-make_journal
+returns-in_err-make_journal g c =
     let m : Meaning g.row.C.Denot = record { on = g.C.Card.on; holds = g.C.Card.holds; remains = g.C.Card.remains; origins = g.C.Card.origins } in
     let names = c.args.names.now in
     let file : ℕ → Name = named names.rows names.lens names.count in
@@ -73,9 +73,9 @@ returns-in-err-make-journal g c =
     let super = super_of file c.args.linked in
     let d = c.loop-database.database in
     let lt : d < names.count = omega (arith, c.loop-database-test.true, c.count-database-end.ensures) in
-    let p = err_from_is_err_and c.from-residual.result c.from-residual.ensures.1 in
-    let f = c.in-err-make-journal.field-0.0 in
+    let p = err_from_is_err_and c.from_residual.result c.from_residual.ensures.1 in
+    let f = c.in_err-make_journal.field-0.0 in
     λ stored s.
-    went_up m _ start c.make-journal.new.card f c.from-residual.result (p.1 ∙ ap (λ (f : SetFault). Err f) p.2)
-    (making_stop m file c.args.nonce super mem rows names.count start d c.loop-database.card c.make-journal.new.card c.get-size.result lt (c.get-size.ensures.is (omega (arith, lt, names.few)))
-    (sym c.is_changed.ensures ∙ c.if-is-changed.true) (λ k low. not_journal names d k lt low) c.loop-database.invariant f c.in-err-make-journal.ensures stored s)
+    went_up m _ start c.make_journal.new.card f c.from_residual.result (p.1 ∙ ap (λ (f : SetFault). Err f) p.2)
+    (making_stop m file c.args.nonce super mem rows names.count start d c.loop-database.card c.make_journal.new.card c.get-size.result lt (c.get-size.ensures.is (omega (arith, lt, names.few)))
+    (sym c.is_changed.ensures ∙ c.if-is_changed.true) (λ k low. not_journal names d k lt low) c.loop-database.invariant f c.in_err-make_journal.ensures stored s)

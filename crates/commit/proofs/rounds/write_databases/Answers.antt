@@ -24,13 +24,13 @@ loop-database-preserved g c =
     let start = c.args.card.now in
     let d = c.loop-database.database in
     λ stored base.
-    elim c.if-is-changed.branch [
-      | goal.then-is-changed+in-ok-write-pages w ↦
+    elim c.if-is_changed.branch [
+      | goal.then-is_changed+in_ok-write_pages w ↦
           subst (λ x. Round m (λ k. change_tasks file (change_of stored base mem k)) mem start (d + 1) x) (sym w.card-is)
-          (round_more m (λ k. change_tasks file (change_of stored base mem k)) mem start d c.loop-database.card w.write-pages.new.card (sym c.is_changed.ensures ∙ w.if-is-changed.true) (c.loop-database.invariant stored base) (w.in-ok-write-pages.ensures stored))
-      | goal.else-is-changed w ↦
+          (round_more m (λ k. change_tasks file (change_of stored base mem k)) mem start d c.loop-database.card w.write_pages.new.card (sym c.is_changed.ensures ∙ w.if-is_changed.true) (c.loop-database.invariant stored base) (w.in_ok-write_pages.ensures stored))
+      | goal.else-is_changed w ↦
           subst (λ x. Round m (λ k. change_tasks file (change_of stored base mem k)) mem start (d + 1) x) (sym w.card-is)
-          (round_skip m (λ k. change_tasks file (change_of stored base mem k)) mem start d c.loop-database.card (sym c.is_changed.ensures ∙ w.if-is-changed.false) (c.loop-database.invariant stored base))
+          (round_skip m (λ k. change_tasks file (change_of stored base mem k)) mem start d c.loop-database.card (sym c.is_changed.ensures ∙ w.if-is_changed.false) (c.loop-database.invariant stored base))
     ]
 
 pub returns : goal.returns
@@ -44,17 +44,17 @@ returns g c =
     λ stored base.
     round_all m (λ k. change_tasks file (change_of stored base mem k)) mem start d names.count c.loop-database.card (omega (arith, c.loop-database.auto.database-end, c.loop-database-test.false, c.count-database-end.ensures)) (c.loop-database.invariant stored base)
 
-pub returns-in-err-write-pages : goal.returns-in-err-write-pages
-returns-in-err-write-pages g c =
+pub returns-in_err-write_pages : goal.returns-in_err-write_pages
+returns-in_err-write_pages g c =
     let m : Meaning g.row.C.Denot = record { on = g.C.Card.on; holds = g.C.Card.holds; remains = g.C.Card.remains; origins = g.C.Card.origins } in
     let names = c.args.names.now in
     let file : ℕ → Name = named names.rows names.lens names.count in
     let mem = c.args.memory.now in
     let start = c.args.card.now in
     let d = c.loop-database.database in
-    let p = err_from_is_err_and c.from-residual.result c.from-residual.ensures.1 in
-    let f = c.in-err-write-pages.field-0.0 in
+    let p = err_from_is_err_and c.from_residual.result c.from_residual.ensures.1 in
+    let f = c.in_err-write_pages.field-0.0 in
     λ stored base.
-    went_up m _ start c.write-pages.new.card f c.from-residual.result (p.1 ∙ ap (λ (f : SetFault). Err f) p.2)
-    (round_stop m (λ k. change_tasks file (change_of stored base mem k)) mem start d names.count c.loop-database.card c.write-pages.new.card f (omega (arith, c.loop-database-test.true, c.count-database-end.ensures)) (sym c.is_changed.ensures ∙ c.if-is-changed.true)
-    (c.loop-database.invariant stored base) (c.in-err-write-pages.ensures stored))
+    went_up m _ start c.write_pages.new.card f c.from_residual.result (p.1 ∙ ap (λ (f : SetFault). Err f) p.2)
+    (round_stop m (λ k. change_tasks file (change_of stored base mem k)) mem start d names.count c.loop-database.card c.write_pages.new.card f (omega (arith, c.loop-database-test.true, c.count-database-end.ensures)) (sym c.is_changed.ensures ∙ c.if-is_changed.true)
+    (c.loop-database.invariant stored base) (c.in_err-write_pages.ensures stored))

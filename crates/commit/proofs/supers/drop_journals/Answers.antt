@@ -43,31 +43,31 @@ loop-database-preserved g c =
     let act : ℕ → Act = λ k. record { name = file (4 + k); op = delete } in
     let d = c.loop-database.database in
     let n = c.loop-database.left in
-    let on : (x : g.row.C.Denot) (k : ℕ) → c.if-is-changed.card ≡ x → c.if-is-changed.left ≡ k → Trying m act mem start (d + 1) k x × (k ≤ d + 1) → Trying m act mem start (d + 1) c.if-is-changed.left c.if-is-changed.card × (c.if-is-changed.left ≤ d + 1) =
-    λ x k ex ek h. subst (λ (y : g.row.C.Denot). Trying m act mem start (d + 1) c.if-is-changed.left y × (c.if-is-changed.left ≤ d + 1)) (sym ex) (subst (λ (i : ℕ). Trying m act mem start (d + 1) i x × (i ≤ d + 1)) (sym ek) h) in
-    elim c.if-is-changed.branch [
-      | goal.then-is-changed+then-is-err w ↦
+    let on : (x : g.row.C.Denot) (k : ℕ) → c.if-is_changed.card ≡ x → c.if-is_changed.left ≡ k → Trying m act mem start (d + 1) k x × (k ≤ d + 1) → Trying m act mem start (d + 1) c.if-is_changed.left c.if-is_changed.card × (c.if-is_changed.left ≤ d + 1) =
+    λ x k ex ek h. subst (λ (y : g.row.C.Denot). Trying m act mem start (d + 1) c.if-is_changed.left y × (c.if-is_changed.left ≤ d + 1)) (sym ex) (subst (λ (i : ℕ). Trying m act mem start (d + 1) i x × (i ≤ d + 1)) (sym ek) h) in
+    elim c.if-is_changed.branch [
+      | goal.then-is_changed+then-is_err w ↦
           let r = w.delete.result in
-          let name : w.bytes.result.now ≡ file (4 + d) = w.bytes.ensures ∙ w.file_journal.ensures in
+          let name : w.bytes.result.now ≡ file (4 + d) = w.bytes.ensures ∙ w.file-journal.ensures in
           let called = subst (λ (x : Name). Called m c.loop-database.card x delete (cause_of r) w.delete.new.self) name w.delete.ensures.called in
           on _ _ w.card-is w.left-is (
-            trying_more m act mem start d n (n + 1) c.loop-database.card w.delete.new.self (cause_of r) (sym c.is_changed.ensures ∙ w.if-is-changed.true) c.loop-database.invariant.0 called w.delete.ensures.origins
-                (ap (λ (k : ℕ). n + k) (sym (ill r (sym w.is-err.ensures.value ∙ w.if-is-err.true)))),
+            trying_more m act mem start d n (n + 1) c.loop-database.card w.delete.new.self (cause_of r) (sym c.is_changed.ensures ∙ w.if-is_changed.true) c.loop-database.invariant.0 called w.delete.ensures.origins
+                (ap (λ (k : ℕ). n + k) (sym (ill r (sym w.is_err.ensures.value ∙ w.if-is_err.true)))),
             omega (arith, c.loop-database.invariant.1),
           )
-      | goal.then-is-changed+else-is-err w ↦
+      | goal.then-is_changed+else-is_err w ↦
           let r = w.delete.result in
-          let name : w.bytes.result.now ≡ file (4 + d) = w.bytes.ensures ∙ w.file_journal.ensures in
+          let name : w.bytes.result.now ≡ file (4 + d) = w.bytes.ensures ∙ w.file-journal.ensures in
           let called = subst (λ (x : Name). Called m c.loop-database.card x delete (cause_of r) w.delete.new.self) name w.delete.ensures.called in
-          let none = well r (sym w.is-err.ensures.value ∙ w.if-is-err.false) in
+          let none = well r (sym w.is_err.ensures.value ∙ w.if-is_err.false) in
           on _ _ w.card-is w.left-is (
-            trying_more m act mem start d n n c.loop-database.card w.delete.new.self (cause_of r) (sym c.is_changed.ensures ∙ w.if-is-changed.true) c.loop-database.invariant.0 called w.delete.ensures.origins
+            trying_more m act mem start d n n c.loop-database.card w.delete.new.self (cause_of r) (sym c.is_changed.ensures ∙ w.if-is_changed.true) c.loop-database.invariant.0 called w.delete.ensures.origins
                 (omega (arith, none)),
             omega (arith, c.loop-database.invariant.1),
           )
-      | goal.else-is-changed w ↦
+      | goal.else-is_changed w ↦
           on _ _ w.card-is w.left-is (
-            trying_skip m act mem start d n c.loop-database.card (sym c.is_changed.ensures ∙ w.if-is-changed.false) c.loop-database.invariant.0,
+            trying_skip m act mem start d n c.loop-database.card (sym c.is_changed.ensures ∙ w.if-is_changed.false) c.loop-database.invariant.0,
             omega (arith, c.loop-database.invariant.1),
           )
     ]

@@ -8,11 +8,11 @@ use Rattle.commit.proofs.supers.fill_super.Goals as goal
 pub loop-database-init : goal.loop-database-init
 loop-database-init c = listing_none _ _ c.args.buffer.now c.told-buffer
 
-pub put-ended-end-requires : goal.put-ended-end-requires
-put-ended-end-requires c =
-    let row = c.file_journal.result.row in
-    let n = c.file_journal.result.length in
-    omega (arith, c.loop-database.invariant.few, c.loop-database-test.true, c.count-database-end.ensures, c.args.names.now.few, ap length c.bytes.ensures, length-take n row, c.file_journal.result.short)
+pub put_ended-end-requires : goal.put_ended-end-requires
+put_ended-end-requires c =
+    let row = c.file-journal.result.row in
+    let n = c.file-journal.result.length in
+    omega (arith, c.loop-database.invariant.few, c.loop-database-test.true, c.count-database-end.ensures, c.args.names.now.few, ap length c.bytes.ensures, length-take n row, c.file-journal.result.short)
 
 pub loop-database-preserved : goal.loop-database-preserved
 loop-database-preserved c =
@@ -20,24 +20,24 @@ loop-database-preserved c =
     let mem = c.args.memory.now in
     let name : ℕ → Name = λ k. named names.rows names.lens names.count (4 + k) in
     let d = c.loop-database.database in
-    elim c.if-is-changed.branch [
-      | goal.then-is-changed w ↦
-          let is : w.bytes.result.now ≡ name d = w.bytes.ensures ∙ w.file_journal.ensures in
-          let new = w.put-ended-end.new.buffer in
+    elim c.if-is_changed.branch [
+      | goal.then-is_changed w ↦
+          let is : w.bytes.result.now ≡ name d = w.bytes.ensures ∙ w.file-journal.ensures in
+          let new = w.put_ended-end.new.buffer in
           let end = c.loop-database.end in
           let long : length w.bytes.result.now ≡ length (name d) = ap length is in
-          let at : w.put-ended-end.result ≡ end + length (name d) + 1 = w.put-ended-end.ensures.end ∙ ap (λ (k : ℕ). end + k + 1) long in
+          let at : w.put_ended-end.result ≡ end + length (name d) + 1 = w.put_ended-end.ensures.end ∙ ap (λ (k : ℕ). end + k + 1) long in
           let put : take (end + length (name d) + 1) new ≡ take end c.loop-database.buffer ++ (name d ++ (0 ∷ [])) =
-          ap (λ (k : ℕ). take k new) (sym at) ∙ w.put-ended-end.ensures.put ∙ ap (λ (x : Bytes). take end c.loop-database.buffer ++ (x ++ (0 ∷ []))) is in
-          let short : length (name d) ≤ 32 = omega (arith, sym long, ap length w.bytes.ensures, length-take w.file_journal.result.length w.file_journal.result.row, w.file_journal.result.short) in
-          let room : length new ≡ 17724 = ap length (sym w.buffer-is) ∙ c.if-is-changed.array_long in
-          subst (λ (x : Bytes). Listing name mem (d + 1) x c.if-is-changed.end) (sym w.buffer-is)
+          ap (λ (k : ℕ). take k new) (sym at) ∙ w.put_ended-end.ensures.put ∙ ap (λ (x : Bytes). take end c.loop-database.buffer ++ (x ++ (0 ∷ []))) is in
+          let short : length (name d) ≤ 32 = omega (arith, sym long, ap length w.bytes.ensures, length-take w.file-journal.result.length w.file-journal.result.row, w.file-journal.result.short) in
+          let room : length new ≡ 17724 = ap length (sym w.buffer-is) ∙ c.if-is_changed.array_long in
+          subst (λ (x : Bytes). Listing name mem (d + 1) x c.if-is_changed.end) (sym w.buffer-is)
           (subst (λ (k : ℕ). Listing name mem (d + 1) new k) (sym (w.end-is ∙ at))
-          (listing_more name mem d c.loop-database.buffer new end (sym c.is_changed.ensures ∙ w.if-is-changed.true) short room c.loop-database.invariant put))
-      | goal.else-is-changed w ↦
-          subst (λ (x : Bytes). Listing name mem (d + 1) x c.if-is-changed.end) (sym w.buffer-is)
+          (listing_more name mem d c.loop-database.buffer new end (sym c.is_changed.ensures ∙ w.if-is_changed.true) short room c.loop-database.invariant put))
+      | goal.else-is_changed w ↦
+          subst (λ (x : Bytes). Listing name mem (d + 1) x c.if-is_changed.end) (sym w.buffer-is)
           (subst (λ (k : ℕ). Listing name mem (d + 1) c.loop-database.buffer k) (sym w.end-is)
-          (listing_skip name mem d c.loop-database.buffer c.loop-database.end (sym c.is_changed.ensures ∙ w.if-is-changed.false) c.loop-database.invariant))
+          (listing_skip name mem d c.loop-database.buffer c.loop-database.end (sym c.is_changed.ensures ∙ w.if-is_changed.false) c.loop-database.invariant))
     ]
 
 pub returns : goal.returns

@@ -8,11 +8,11 @@ returns c =
     let b = c.args.buffer.now in
     let name = c.args.name.now in
     let p = c.args.place in
-    let first = c.put-bytes.new.buffer in
+    let first = c.put_bytes.new.buffer in
     record {
       end = refl;
       put =
-          put_both b first c.put-bytes-2.new.buffer name p (omega (arith, c.requires, c.told-buffer))
-          (ap length c.put-bytes.ensures ∙ length_overwrite b p name (omega (arith, c.requires, c.told-buffer)) ∙ omega (arith, c.requires, c.told-buffer))
-          c.put-bytes.ensures c.put-bytes-2.ensures;
+          put_both b first c.put_bytes-2.new.buffer name p (omega (arith, c.requires, c.told-buffer))
+          (ap length c.put_bytes.ensures ∙ length_overwrite b p name (omega (arith, c.requires, c.told-buffer)) ∙ omega (arith, c.requires, c.told-buffer))
+          c.put_bytes.ensures c.put_bytes-2.ensures;
     }

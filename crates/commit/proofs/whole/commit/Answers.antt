@@ -14,8 +14,8 @@ use Rattle.commit.proofs.whole.commit.Goals as goal
 not_super : (names : Names) (k : ℕ) → k < names.count → named names.rows names.lens names.count k ≡ named names.rows names.lens names.count 8 → ⊥
 not_super names k lt = named_apart names.rows names.lens names.count k 8 names.apart (a_database lt) the_super (λ e. omega (arith, names.few))
 
-pub returns-in-err-open-super : goal.returns-in-err-open-super
-returns-in-err-open-super g c =
+pub returns-in_err-open_super : goal.returns-in_err-open_super
+returns-in_err-open_super g c =
     let m : Meaning g.row.C.Denot = record { on = g.C.Card.on; holds = g.C.Card.holds; remains = g.C.Card.remains; origins = g.C.Card.origins } in
     let names = c.args.names.now in
     let file : ℕ → Name = named names.rows names.lens names.count in
@@ -23,18 +23,18 @@ returns-in-err-open-super g c =
     let rows = c.args.sizes.now.rows in
     let nonce = c.args.nonce in
     let start = c.args.card.now in
-    let several = leb 2 c.changed-databases-many.result in
+    let several = leb 2 c.changed_databases-many.result in
     let is : several ≡ leb 2 (length (changed_list mem names.count)) =
-    ap (leb 2) (c.changed-databases-many.ensures ∙ ap (λ (k : ℕ). length (changed_list mem k)) c.count.ensures) in
+    ap (leb 2) (c.changed_databases-many.ensures ∙ ap (λ (k : ℕ). length (changed_list mem k)) c.count.ensures) in
     let stored : ℕ → Bytes = λ d. contents (m.holds start (file d)) in
-    let p = err_from_is_err_and c.from-residual.result c.from-residual.ensures.1 in
-    let f = c.in-err-open-super.field-0.0 in
-    let failed : c.from-residual.result ≡ Err f = p.1 ∙ ap (λ (f : SetFault). Err f) p.2 in
-    subst (λ (r : Result ℕ SetFault). Committed m file nonce (changes stored rows mem names.count) start r c.open-super.new.card) (sym failed)
-    (not_opened m file nonce rows mem names.count start several is f c.open-super.new.card c.in-err-open-super.ensures)
+    let p = err_from_is_err_and c.from_residual.result c.from_residual.ensures.1 in
+    let f = c.in_err-open_super.field-0.0 in
+    let failed : c.from_residual.result ≡ Err f = p.1 ∙ ap (λ (f : SetFault). Err f) p.2 in
+    subst (λ (r : Result ℕ SetFault). Committed m file nonce (changes stored rows mem names.count) start r c.open_super.new.card) (sym failed)
+    (not_opened m file nonce rows mem names.count start several is f c.open_super.new.card c.in_err-open_super.ensures)
 
-pub returns-in-err-make-journals : goal.returns-in-err-make-journals
-returns-in-err-make-journals g c =
+pub returns-in_err-make_journals : goal.returns-in_err-make_journals
+returns-in_err-make_journals g c =
     let m : Meaning g.row.C.Denot = record { on = g.C.Card.on; holds = g.C.Card.holds; remains = g.C.Card.remains; origins = g.C.Card.origins } in
     let names = c.args.names.now in
     let file : ℕ → Name = named names.rows names.lens names.count in
@@ -42,21 +42,21 @@ returns-in-err-make-journals g c =
     let rows = c.args.sizes.now.rows in
     let nonce = c.args.nonce in
     let start = c.args.card.now in
-    let several = leb 2 c.changed-databases-many.result in
+    let several = leb 2 c.changed_databases-many.result in
     let is : several ≡ leb 2 (length (changed_list mem names.count)) =
-    ap (leb 2) (c.changed-databases-many.ensures ∙ ap (λ (k : ℕ). length (changed_list mem k)) c.count.ensures) in
+    ap (leb 2) (c.changed_databases-many.ensures ∙ ap (λ (k : ℕ). length (changed_list mem k)) c.count.ensures) in
     let stored : ℕ → Bytes = λ d. contents (m.holds start (file d)) in
-    let p = err_from_is_err_and c.from-residual-in-err-make-journals.result c.from-residual-in-err-make-journals.ensures.1 in
-    let f = c.in-err-make-journals.field-0.0 in
-    let failed : c.from-residual-in-err-make-journals.result ≡ Err f = p.1 ∙ ap (λ (f : SetFault). Err f) p.2 in
-    let c₁ = c.open-super.new.card in
-    let opened = c.in-ok-open-super.ensures in
+    let p = err_from_is_err_and c.from_residual-in_err-make_journals.result c.from_residual-in_err-make_journals.ensures.1 in
+    let f = c.in_err-make_journals.field-0.0 in
+    let failed : c.from_residual-in_err-make_journals.result ≡ Err f = p.1 ∙ ap (λ (f : SetFault). Err f) p.2 in
+    let c₁ = c.open_super.new.card in
+    let opened = c.in_ok-open_super.ensures in
     let held = kept_stored m file nonce rows mem names.count start several is c₁ opened (λ k lt. not_super names k lt) in
-    subst (λ (r : Result ℕ SetFault). Committed m file nonce (changes stored rows mem names.count) start r c.make-journals.new.card) (sym failed)
-    (not_made m file nonce rows mem names.count start several is c₁ opened f c.make-journals.new.card (c.in-err-make-journals.ensures stored held))
+    subst (λ (r : Result ℕ SetFault). Committed m file nonce (changes stored rows mem names.count) start r c.make_journals.new.card) (sym failed)
+    (not_made m file nonce rows mem names.count start several is c₁ opened f c.make_journals.new.card (c.in_err-make_journals.ensures stored held))
 
-pub returns-in-err-write-databases : goal.returns-in-err-write-databases
-returns-in-err-write-databases g c =
+pub returns-in_err-write_databases : goal.returns-in_err-write_databases
+returns-in_err-write_databases g c =
     let m : Meaning g.row.C.Denot = record { on = g.C.Card.on; holds = g.C.Card.holds; remains = g.C.Card.remains; origins = g.C.Card.origins } in
     let names = c.args.names.now in
     let file : ℕ → Name = named names.rows names.lens names.count in
@@ -64,23 +64,23 @@ returns-in-err-write-databases g c =
     let rows = c.args.sizes.now.rows in
     let nonce = c.args.nonce in
     let start = c.args.card.now in
-    let several = leb 2 c.changed-databases-many.result in
+    let several = leb 2 c.changed_databases-many.result in
     let is : several ≡ leb 2 (length (changed_list mem names.count)) =
-    ap (leb 2) (c.changed-databases-many.ensures ∙ ap (λ (k : ℕ). length (changed_list mem k)) c.count.ensures) in
+    ap (leb 2) (c.changed_databases-many.ensures ∙ ap (λ (k : ℕ). length (changed_list mem k)) c.count.ensures) in
     let stored : ℕ → Bytes = λ d. contents (m.holds start (file d)) in
-    let p = err_from_is_err_and c.from-residual-in-err-write-databases.result c.from-residual-in-err-write-databases.ensures.1 in
-    let f = c.in-err-write-databases.field-0.0 in
-    let failed : c.from-residual-in-err-write-databases.result ≡ Err f = p.1 ∙ ap (λ (f : SetFault). Err f) p.2 in
-    let c₁ = c.open-super.new.card in
-    let opened = c.in-ok-open-super.ensures in
+    let p = err_from_is_err_and c.from_residual-in_err-write_databases.result c.from_residual-in_err-write_databases.ensures.1 in
+    let f = c.in_err-write_databases.field-0.0 in
+    let failed : c.from_residual-in_err-write_databases.result ≡ Err f = p.1 ∙ ap (λ (f : SetFault). Err f) p.2 in
+    let c₁ = c.open_super.new.card in
+    let opened = c.in_ok-open_super.ensures in
     let held = kept_stored m file nonce rows mem names.count start several is c₁ opened (λ k lt. not_super names k lt) in
-    let c₂ = c.make-journals.new.card in
-    let made = c.in-ok-make-journals.ensures stored held in
-    subst (λ (r : Result ℕ SetFault). Committed m file nonce (changes stored rows mem names.count) start r c.write-databases.new.card) (sym failed)
-    (not_written m file nonce rows mem names.count start several is c₁ opened c₂ made f c.write-databases.new.card (c.in-err-write-databases.ensures stored rows))
+    let c₂ = c.make_journals.new.card in
+    let made = c.in_ok-make_journals.ensures stored held in
+    subst (λ (r : Result ℕ SetFault). Committed m file nonce (changes stored rows mem names.count) start r c.write_databases.new.card) (sym failed)
+    (not_written m file nonce rows mem names.count start several is c₁ opened c₂ made f c.write_databases.new.card (c.in_err-write_databases.ensures stored rows))
 
-pub returns-in-err-close : goal.returns-in-err-close
-returns-in-err-close g c =
+pub returns-in_err-close : goal.returns-in_err-close
+returns-in_err-close g c =
     let m : Meaning g.row.C.Denot = record { on = g.C.Card.on; holds = g.C.Card.holds; remains = g.C.Card.remains; origins = g.C.Card.origins } in
     let names = c.args.names.now in
     let file : ℕ → Name = named names.rows names.lens names.count in
@@ -88,22 +88,22 @@ returns-in-err-close g c =
     let rows = c.args.sizes.now.rows in
     let nonce = c.args.nonce in
     let start = c.args.card.now in
-    let several = leb 2 c.changed-databases-many.result in
+    let several = leb 2 c.changed_databases-many.result in
     let is : several ≡ leb 2 (length (changed_list mem names.count)) =
-    ap (leb 2) (c.changed-databases-many.ensures ∙ ap (λ (k : ℕ). length (changed_list mem k)) c.count.ensures) in
+    ap (leb 2) (c.changed_databases-many.ensures ∙ ap (λ (k : ℕ). length (changed_list mem k)) c.count.ensures) in
     let stored : ℕ → Bytes = λ d. contents (m.holds start (file d)) in
-    let p = err_from_is_err_and c.from-residual-in-err-close.result c.from-residual-in-err-close.ensures.1 in
-    let f = c.in-err-close.field-0.0 in
-    let failed : c.from-residual-in-err-close.result ≡ Err f = p.1 ∙ ap (λ (f : SetFault). Err f) p.2 in
-    let c₁ = c.open-super.new.card in
-    let opened = c.in-ok-open-super.ensures in
+    let p = err_from_is_err_and c.from_residual-in_err-close.result c.from_residual-in_err-close.ensures.1 in
+    let f = c.in_err-close.field-0.0 in
+    let failed : c.from_residual-in_err-close.result ≡ Err f = p.1 ∙ ap (λ (f : SetFault). Err f) p.2 in
+    let c₁ = c.open_super.new.card in
+    let opened = c.in_ok-open_super.ensures in
     let held = kept_stored m file nonce rows mem names.count start several is c₁ opened (λ k lt. not_super names k lt) in
-    let c₂ = c.make-journals.new.card in
-    let made = c.in-ok-make-journals.ensures stored held in
-    let c₃ = c.write-databases.new.card in
-    let written = c.in-ok-write-databases.ensures stored rows in
+    let c₂ = c.make_journals.new.card in
+    let made = c.in_ok-make_journals.ensures stored held in
+    let c₃ = c.write_databases.new.card in
+    let written = c.in_ok-write_databases.ensures stored rows in
     subst (λ (r : Result ℕ SetFault). Committed m file nonce (changes stored rows mem names.count) start r c.close.new.card) (sym failed)
-    (not_closed m file nonce rows mem names.count start several is c₁ opened c₂ made c₃ written c.close.new.card f c.in-err-close.ensures)
+    (not_closed m file nonce rows mem names.count start several is c₁ opened c₂ made c₃ written c.close.new.card f c.in_err-close.ensures)
 
 pub returns : goal.returns
 returns g c =
@@ -114,15 +114,15 @@ returns g c =
     let rows = c.args.sizes.now.rows in
     let nonce = c.args.nonce in
     let start = c.args.card.now in
-    let several = leb 2 c.changed-databases-many.result in
+    let several = leb 2 c.changed_databases-many.result in
     let is : several ≡ leb 2 (length (changed_list mem names.count)) =
-    ap (leb 2) (c.changed-databases-many.ensures ∙ ap (λ (k : ℕ). length (changed_list mem k)) c.count.ensures) in
+    ap (leb 2) (c.changed_databases-many.ensures ∙ ap (λ (k : ℕ). length (changed_list mem k)) c.count.ensures) in
     let stored : ℕ → Bytes = λ d. contents (m.holds start (file d)) in
-    let c₁ = c.open-super.new.card in
-    let opened = c.in-ok-open-super.ensures in
+    let c₁ = c.open_super.new.card in
+    let opened = c.in_ok-open_super.ensures in
     let held = kept_stored m file nonce rows mem names.count start several is c₁ opened (λ k lt. not_super names k lt) in
-    let c₂ = c.make-journals.new.card in
-    let made = c.in-ok-make-journals.ensures stored held in
-    let c₃ = c.write-databases.new.card in
-    let written = c.in-ok-write-databases.ensures stored rows in
-    counted m file nonce rows mem names.count start several is c₁ opened c₂ made c₃ written c.close.new.card c.drop-journals.new.card c.drop-journals.result c.in-ok-close.ensures c.drop-journals.ensures
+    let c₂ = c.make_journals.new.card in
+    let made = c.in_ok-make_journals.ensures stored held in
+    let c₃ = c.write_databases.new.card in
+    let written = c.in_ok-write_databases.ensures stored rows in
+    counted m file nonce rows mem names.count start several is c₁ opened c₂ made c₃ written c.close.new.card c.drop_journals.new.card c.drop_journals.result c.in_ok-close.ensures c.drop_journals.ensures

@@ -14,15 +14,15 @@ unreachable-requires c =
     let file : ℕ → Name = named names.rows names.lens names.count in
     let is : told c.if-linked.name ≡ super_of file c.args.linked =
     elim c.if-linked.branch [
-      | goal.then-linked w ↦ name_linked file _ _ _ w.name_is (w.bytes.ensures ∙ c.file-file.ensures) w.if-linked.true
-      | goal.else-linked w ↦ name_free file _ _ w.name_is w.if-linked.false
+      | goal.then-linked w ↦ name_linked file _ _ _ w.name-is (w.bytes.ensures ∙ c.file-file.ensures) w.if-linked.true
+      | goal.else-linked w ↦ name_free file _ _ w.name-is w.if-linked.false
     ] in
     let row = c.file-file.result.row in
     let n = c.file-file.result.length in
     let low : 1 ≤ length (file 8) = omega (arith, named_super names.rows names.lens names.count) in
     let high : length (file 8) ≤ 32 = omega (arith, ap length c.file-file.ensures, length-take n row, c.file-file.result.short) in
-    not_refused file c.args.linked c.args.buffer.now c.fill-journal.new.buffer c.args.nonce c.args.size c.args.pages.now c.in-default.field-0 c.requires.some c.requires.small c.requires.pages low high c.told-buffer
-    (subst (λ (o : Option Name). Filled c.args.buffer.now c.args.nonce c.args.size c.args.pages.now o (Err c.in-default.field-0) c.fill-journal.new.buffer) is c.in-default.ensures)
+    not_refused file c.args.linked c.args.buffer.now c.fill_journal.new.buffer c.args.nonce c.args.size c.args.pages.now c.in_default.field-0 c.requires.some c.requires.small c.requires.pages low high c.told-buffer
+    (subst (λ (o : Option Name). Filled c.args.buffer.now c.args.nonce c.args.size c.args.pages.now o (Err c.in_default.field-0) c.fill_journal.new.buffer) is c.in_default.ensures)
 
 pub returns : goal.returns
 returns c =
@@ -30,7 +30,7 @@ returns c =
     let file : ℕ → Name = named names.rows names.lens names.count in
     let is : told c.if-linked.name ≡ super_of file c.args.linked =
     elim c.if-linked.branch [
-      | goal.then-linked w ↦ name_linked file _ _ _ w.name_is (w.bytes.ensures ∙ c.file-file.ensures) w.if-linked.true
-      | goal.else-linked w ↦ name_free file _ _ w.name_is w.if-linked.false
+      | goal.then-linked w ↦ name_linked file _ _ _ w.name-is (w.bytes.ensures ∙ c.file-file.ensures) w.if-linked.true
+      | goal.else-linked w ↦ name_free file _ _ w.name-is w.if-linked.false
     ] in
-    subst (λ (o : Option Name). Filled c.args.buffer.now c.args.nonce c.args.size c.args.pages.now o (Ok c.in-Ok.length) c.fill-journal.new.buffer) is c.in-Ok.ensures
+    subst (λ (o : Option Name). Filled c.args.buffer.now c.args.nonce c.args.size c.args.pages.now o (Ok c.in-Ok.length) c.fill_journal.new.buffer) is c.in-Ok.ensures

@@ -28,8 +28,8 @@ use Rattle.journaling.proofs.journals.make_journal.Goals as goal
 passed : (count : ℕ) (rows list : List ℕ) → take count rows ≡ list → take (count - 0) rows ≡ list
 passed count rows list e = ap (λ (k : ℕ). take k rows) (sub-zero count) ∙ e
 
-pub returns-in-err-create : goal.returns-in-err-create
-returns-in-err-create g c =
+pub returns-in_err-create : goal.returns-in_err-create
+returns-in_err-create g c =
     let m : Meaning g.row.C.Denot = record { on = g.C.Card.on; holds = g.C.Card.holds; remains = g.C.Card.remains; origins = g.C.Card.origins } in
     let names = c.args.names.now in
     let file : ℕ → Name = named names.rows names.lens names.count in
@@ -38,22 +38,22 @@ returns-in-err-create g c =
     let super = super_of file c.args.linked in
     let s = map_of c.args.memory.now.maps d in
     let ch : Change = record { database = d; stored = contents (m.holds start (file d)); size = c.args.size; recorded = recorded s c.args.size; pages = [] } in
-    let p = err_from_is_err_and c.from-residual.result c.from-residual.ensures.1 in
-    let f = c.in-err-create.field-0.0 in
-    let made = went_as m start c.create.new.card (Err f) _ (at C2 (4 + d)) _ (file (4 + d)) create create c.new-site.ensures (c.bytes.ensures ∙ c.file_journal.ensures) refl c.in-err-create.ensures in
-    went_up m _ start c.create.new.card f c.from-residual.result (p.1 ∙ ap (λ (f : SetFault). Err f) p.2) (not_created m file c.args.nonce super ch start c.create.new.card f made)
+    let p = err_from_is_err_and c.from_residual.result c.from_residual.ensures.1 in
+    let f = c.in_err-create.field-0.0 in
+    let made = went_as m start c.create.new.card (Err f) _ (at C2 (4 + d)) _ (file (4 + d)) create create c.new-site.ensures (c.bytes.ensures ∙ c.file-journal.ensures) refl c.in_err-create.ensures in
+    went_up m _ start c.create.new.card f c.from_residual.result (p.1 ∙ ap (λ (f : SetFault). Err f) p.2) (not_created m file c.args.nonce super ch start c.create.new.card f made)
 
-pub read-originals-requires : goal.read-originals-requires
-read-originals-requires g c =
+pub read_originals-requires : goal.read_originals-requires
+read_originals-requires g c =
     let s = map_of c.args.memory.now.maps c.args.database in
-    let is = passed c.recorded-pages-recorded.result.count c.recorded-pages-recorded.result.rows (recorded s c.args.size) c.recorded-pages-recorded.ensures in
+    let is = passed c.recorded_pages-recorded.result.count c.recorded_pages-recorded.result.rows (recorded s c.args.size) c.recorded_pages-recorded.ensures in
     record {
-      few = omega (arith, length-take (c.recorded-pages-recorded.result.count - 0) c.recorded-pages-recorded.result.rows, c.recorded-pages-recorded.result.few);
+      few = omega (arith, length-take (c.recorded_pages-recorded.result.count - 0) c.recorded_pages-recorded.result.rows, c.recorded_pages-recorded.result.few);
       pages = subst PagesOk (sym is) (recorded_ok s c.args.size c.requires.some c.requires.small);
     }
 
-pub returns-in-err-read-originals : goal.returns-in-err-read-originals
-returns-in-err-read-originals g c =
+pub returns-in_err-read_originals : goal.returns-in_err-read_originals
+returns-in_err-read_originals g c =
     let m : Meaning g.row.C.Denot = record { on = g.C.Card.on; holds = g.C.Card.holds; remains = g.C.Card.remains; origins = g.C.Card.origins } in
     let names = c.args.names.now in
     let file : ℕ → Name = named names.rows names.lens names.count in
@@ -62,19 +62,19 @@ returns-in-err-read-originals g c =
     let super = super_of file c.args.linked in
     let s = map_of c.args.memory.now.maps d in
     let ch : Change = record { database = d; stored = contents (m.holds start (file d)); size = c.args.size; recorded = recorded s c.args.size; pages = [] } in
-    let created = went_as m start c.create.new.card (Ok tt) _ (at C2 (4 + d)) _ (file (4 + d)) create create c.new-site.ensures (c.bytes.ensures ∙ c.file_journal.ensures) refl c.in-ok-create.ensures in
-    let is = passed c.recorded-pages-recorded.result.count c.recorded-pages-recorded.result.rows (recorded s c.args.size) c.recorded-pages-recorded.ensures in
-    let p = err_from_is_err_and c.from-residual-in-err-read-originals.result c.from-residual-in-err-read-originals.ensures.1 in
-    let f = c.in-err-read-originals.field-0.0 in
-    let last = c.read-originals.new.card in
-    let read = read_as m c.create.new.card last d (Err f) _ (file d) _ (recorded s c.args.size) (c.bytes-2.ensures ∙ c.file-file.ensures) is c.in-err-read-originals.ensures.went in
-    went_up m _ start last f c.from-residual-in-err-read-originals.result (p.1 ∙ ap (λ (f : SetFault). Err f) p.2)
+    let created = went_as m start c.create.new.card (Ok tt) _ (at C2 (4 + d)) _ (file (4 + d)) create create c.new-site.ensures (c.bytes.ensures ∙ c.file-journal.ensures) refl c.in_ok-create.ensures in
+    let is = passed c.recorded_pages-recorded.result.count c.recorded_pages-recorded.result.rows (recorded s c.args.size) c.recorded_pages-recorded.ensures in
+    let p = err_from_is_err_and c.from_residual-in_err-read_originals.result c.from_residual-in_err-read_originals.ensures.1 in
+    let f = c.in_err-read_originals.field-0.0 in
+    let last = c.read_originals.new.card in
+    let read = read_as m c.create.new.card last d (Err f) _ (file d) _ (recorded s c.args.size) (c.bytes-2.ensures ∙ c.file-file.ensures) is c.in_err-read_originals.ensures.went in
+    went_up m _ start last f c.from_residual-in_err-read_originals.result (p.1 ∙ ap (λ (f : SetFault). Err f) p.2)
     (not_read m file c.args.nonce super ch start c.create.new.card created last f read)
 
 pub fill-length-requires : goal.fill-length-requires
 fill-length-requires g c =
     let s = map_of c.args.memory.now.maps c.args.database in
-    let is = passed c.recorded-pages-recorded.result.count c.recorded-pages-recorded.result.rows (recorded s c.args.size) c.recorded-pages-recorded.ensures in
+    let is = passed c.recorded_pages-recorded.result.count c.recorded_pages-recorded.result.rows (recorded s c.args.size) c.recorded_pages-recorded.ensures in
     record {
       some = c.requires.some;
       small = c.requires.small;
@@ -93,25 +93,25 @@ returns g c =
     let super = super_of file c.args.linked in
     let s = map_of c.args.memory.now.maps d in
     let ch : Change = record { database = d; stored = contents (m.holds start (file d)); size = c.args.size; recorded = recorded s c.args.size; pages = [] } in
-    let created = went_as m start c.create.new.card (Ok tt) _ (at C2 (4 + d)) _ (file (4 + d)) create create c.new-site.ensures (c.bytes.ensures ∙ c.file_journal.ensures) refl c.in-ok-create.ensures in
-    let is = passed c.recorded-pages-recorded.result.count c.recorded-pages-recorded.result.rows (recorded s c.args.size) c.recorded-pages-recorded.ensures in
+    let created = went_as m start c.create.new.card (Ok tt) _ (at C2 (4 + d)) _ (file (4 + d)) create create c.new-site.ensures (c.bytes.ensures ∙ c.file-journal.ensures) refl c.in_ok-create.ensures in
+    let is = passed c.recorded_pages-recorded.result.count c.recorded_pages-recorded.result.rows (recorded s c.args.size) c.recorded_pages-recorded.ensures in
     let first = c.create.new.card in
-    let second = c.read-originals.new.card in
-    let last = c.store-journal.new.card in
+    let second = c.read_originals.new.card in
+    let last = c.store_journal.new.card in
     let name = c.bytes-2.ensures ∙ c.file-file.ensures in
-    let old = c.read-originals.new.buffer in
+    let old = c.read_originals.new.buffer in
     let new = c.fill-length.new.buffer in
     let n = c.fill-length.result in
-    let pages = take (c.recorded-pages-recorded.result.count - 0) c.recorded-pages-recorded.result.rows in
-    let read = read_as m first second d (Ok tt) _ (file d) _ (recorded s c.args.size) name is c.in-ok-read-originals.ensures.went in
+    let pages = take (c.recorded_pages-recorded.result.count - 0) c.recorded_pages-recorded.result.rows in
+    let read = read_as m first second d (Ok tt) _ (file d) _ (recorded s c.args.size) name is c.in_ok-read_originals.ensures.went in
     let lies : originals old 0 (recorded s c.args.size) ≡ map (original (contents (m.holds first (file d)))) (recorded s c.args.size) =
     subst (λ (ps : List ℕ). originals old 0 ps ≡ map (original (contents (m.holds first (file d)))) ps) is
-    (subst (λ (x : Name). originals old 0 pages ≡ map (original (contents (m.holds first x))) pages) name c.in-ok-read-originals.ensures.read) in
+    (subst (λ (x : Name). originals old 0 pages ≡ map (original (contents (m.holds first x))) pages) name c.in_ok-read_originals.ensures.read) in
     let filled : Filled old c.args.nonce c.args.size (recorded s c.args.size) super (Ok n) new =
     subst (λ (ps : List ℕ). Filled old c.args.nonce c.args.size ps super (Ok n) new) is c.fill-length.ensures in
     let apart = named_apart names.rows names.lens names.count d (4 + d) names.apart (a_database c.requires.listed) (a_journal c.requires.listed) (λ e. omega arith) in
-    let stored = went_acted m second last c.new-site.result _ c.store-journal.result c.told.result c.told.ensures c.store-journal.ensures in
-    stored_whole m file c.args.nonce super ch start first created second old new n c.recorded-pages-recorded.result.count read refl apart lies filled last c.told.result
-    (omega (arith, ap length c.recorded-pages-recorded.ensures, length-take c.recorded-pages-recorded.result.count c.recorded-pages-recorded.result.rows, c.recorded-pages-recorded.result.few))
+    let stored = went_acted m second last c.new-site.result _ c.store_journal.result c.told.result c.told.ensures c.store_journal.ensures in
+    stored_whole m file c.args.nonce super ch start first created second old new n c.recorded_pages-recorded.result.count read refl apart lies filled last c.told.result
+    (omega (arith, ap length c.recorded_pages-recorded.ensures, length-take c.recorded_pages-recorded.result.count c.recorded_pages-recorded.result.rows, c.recorded_pages-recorded.result.few))
     (subst (λ (ts : List Task). Went m ts second c.told.result last)
-    (ap₂ (λ (x : Site) (b : Name). tasks x (store_acts b (take (n - 0) new) c.recorded-pages-recorded.result.count)) c.new-site.ensures (c.bytes-3.ensures ∙ c.file_journal.ensures)) stored)
+    (ap₂ (λ (x : Site) (b : Name). tasks x (store_acts b (take (n - 0) new) c.recorded_pages-recorded.result.count)) c.new-site.ensures (c.bytes-3.ensures ∙ c.file-journal.ensures)) stored)

@@ -17,6 +17,6 @@ returns g c =
     let size : length buf ≡ 17724 = omega arith in
     let long : length old ≡ 512 = omega (arith, length-take k (drop start buf), length-drop start buf, size, c.requires.index) in
     record {
-      went = went_as m _ _ _ _ _ _ _ _ _ c.of-record-site.ensures refl (ap (read (place c.args.page)) long) c.read.ensures.went;
+      went = went_as m _ _ _ _ _ _ _ _ _ c.of_record-site.ensures refl (ap (read (place c.args.page)) long) c.read.ensures.went;
       copied = copied_page m c.args.card.now c.read.new.card _ c.args.name.now c.args.page c.args.index start k buf old c.read.new.buffer c.read.result refl (omega arith) refl long c.read.ensures.went c.read.ensures.told;
     }

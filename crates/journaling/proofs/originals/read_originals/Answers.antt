@@ -13,21 +13,21 @@ loop-index-init g c = reading_none _ _ _ _ _ _ c.told-buffer
 
 pub loop-index-preserved : goal.loop-index-preserved
 loop-index-preserved g c =
-    let well = c.in-ok-read-original.ensures in
-    reading_more _ _ _ _ _ c.loop-index.index c.loop-index.card c.read-original.new.card c.loop-index.buffer c.read-original.new.buffer c.loop-index.invariant c.loop-index-test.true
+    let well = c.in_ok-read_original.ensures in
+    reading_more _ _ _ _ _ c.loop-index.index c.loop-index.card c.read_original.new.card c.loop-index.buffer c.read_original.new.buffer c.loop-index.invariant c.loop-index-test.true
     (omega (arith, c.loop-index-test.true, c.requires.few)) well.went well.copied
 
-pub returns-in-err-read-original : goal.returns-in-err-read-original
-returns-in-err-read-original g c =
-    let p = err_from_is_err_and c.from-residual.result c.from-residual.ensures.1 in
+pub returns-in_err-read_original : goal.returns-in_err-read_original
+returns-in_err-read_original g c =
+    let p = err_from_is_err_and c.from_residual.result c.from_residual.ensures.1 in
     let failed = p.1 ∙ ap (λ (f : SetFault). Err f) p.2 in
-    let ill = c.in-err-read-original.ensures in
+    let ill = c.in_err-read_original.ensures in
     record {
       went =
-          went_up _ _ _ _ _ c.from-residual.result failed
-          (reading_stopped _ _ _ _ _ c.loop-index.index c.loop-index.card c.read-original.new.card c.loop-index.buffer c.read-original.new.buffer c.loop-index.invariant c.loop-index-test.true
+          went_up _ _ _ _ _ c.from_residual.result failed
+          (reading_stopped _ _ _ _ _ c.loop-index.index c.loop-index.card c.read_original.new.card c.loop-index.buffer c.read_original.new.buffer c.loop-index.invariant c.loop-index-test.true
           (omega (arith, c.loop-index-test.true, c.requires.few)) _ ill.went);
-      read = subst (λ (r : Result (Unit {0}) SetFault). RecordedIn (contents (g.C.Card.holds c.args.card.now c.args.name.now)) c.args.pages.now r c.read-original.new.buffer) (sym failed) tt;
+      read = subst (λ (r : Result (Unit {0}) SetFault). RecordedIn (contents (g.C.Card.holds c.args.card.now c.args.name.now)) c.args.pages.now r c.read_original.new.buffer) (sym failed) tt;
     }
 
 pub returns : goal.returns

@@ -5,8 +5,8 @@ use Rattle.page_map.proofs.Listed.{above_next, above_past, above_none}
 use Rattle.journaling.proofs.Visits.{next_some, next_none}
 use Rattle.journaling.proofs.pages.next_page.Goals as goal
 
-pub returns-in-default-next : goal.returns-in-default-next
-returns-in-default-next c = above_none _ c.args.after (c.args.last - c.args.after) (next_none _ _ _ c.in-default-next.is c.in-Ok.ensures.next.1)
+pub returns-in_default-next : goal.returns-in_default-next
+returns-in_default-next c = above_none _ c.args.after (c.args.last - c.args.after) (next_none _ _ _ c.in_default-next.is c.in-Ok.ensures.next.1)
 
 pub returns-then-page-last : goal.returns-then-page-last
 returns-then-page-last c =

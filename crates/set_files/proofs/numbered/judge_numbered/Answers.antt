@@ -20,14 +20,14 @@ told_up s f old new r r' e h = subst (λ (x : Result (Option Verdict) SetFault).
 
 pub returns : goal.returns
 returns g c =
-    let name = c.bytes.ensures ∙ c.file_name.ensures in
+    let name = c.bytes.ensures ∙ c.file-name.ensures in
     let holds = g.C.Card.holds c.args.card.now in
     let m : Meaning g.row.C.Denot = record { on = g.C.Card.on; holds = g.C.Card.holds; remains = g.C.Card.remains; origins = g.C.Card.origins } in
     record {
       went =
-          subst (λ (x : Name). Went m (tasks (record { step = Some c.args.step; file = c.args.file; «record» = 0 }) (judge_acts x (holds x))) c.args.card.now c.told.result c.judge-file.new.card) name
-          (subst (λ (x : Site). Went m (tasks x (judge_acts c.bytes.result.now (holds c.bytes.result.now))) c.args.card.now c.told.result c.judge-file.new.card) c.new.ensures
-          (went_acted m _ _ _ _ _ _ c.told.ensures c.judge-file.ensures.acted));
-      told = subst (λ (x : Name). ToldVerdict (holds x) c.args.buffer.now c.told.result c.judge-file.new.buffer) name
-          (told_up c.new.result _ _ _ _ _ c.told.ensures c.judge-file.ensures.told);
+          subst (λ (x : Name). Went m (tasks (record { step = Some c.args.step; file = c.args.file; «record» = 0 }) (judge_acts x (holds x))) c.args.card.now c.told.result c.judge_file.new.card) name
+          (subst (λ (x : Site). Went m (tasks x (judge_acts c.bytes.result.now (holds c.bytes.result.now))) c.args.card.now c.told.result c.judge_file.new.card) c.new.ensures
+          (went_acted m _ _ _ _ _ _ c.told.ensures c.judge_file.ensures.acted));
+      told = subst (λ (x : Name). ToldVerdict (holds x) c.args.buffer.now c.told.result c.judge_file.new.buffer) name
+          (told_up c.new.result _ _ _ _ _ c.told.ensures c.judge_file.ensures.told);
     }

@@ -14,9 +14,9 @@ use Rattle.survey.proofs.journals.judge_journals.Goals as goal
 pub loop-d-init : goal.loop-d-init
 loop-d-init g c = (looked_end _ _ _ _, none_looked _ _)
 
-pub returns-in-err-look : goal.returns-in-err-look
-returns-in-err-look g c =
-    let p = err_from_is_err_and c.from-residual.result c.from-residual.ensures.1 in
+pub returns-in_err-look : goal.returns-in_err-look
+returns-in_err-look g c =
+    let p = err_from_is_err_and c.from_residual.result c.from_residual.ensures.1 in
     let failed = p.1 ∙ ap (λ (e : Refusal). Err e) p.2 in
     let file = file_of c.args.names.now in
     let n = c.args.names.now.count in
@@ -26,12 +26,12 @@ returns-in-err-look g c =
     let lt : c.loop-d.d < n = omega arith in
     let bad = λ (f k : ℕ). (d : ℕ) × (f ≡ 4 + d) × (d < n) × ((i : ℕ) → i < d → (s : Seen) × SeenAs files file i s) × DamagedAt files file d k in
     record {
-      looked = looked_refused _ _ _ _ _ _ _ failed (looked_then _ _ _ _ _ _ _ old.0 c.in-err-look.ensures.looked);
+      looked = looked_refused _ _ _ _ _ _ _ failed (looked_then _ _ _ _ _ _ _ old.0 c.in_err-look.ensures.looked);
       told =
           subst (λ (x : Result Journals Refusal). Told x (λ v. AllLooked files file n v.found v.links) bad never never) (sym failed)
           (says_more _ _ bad _ never _ never
           (λ f k h. (c.loop-d.d, h.0, lt, λ i less. ((old.1.each i less).0, (old.1.each i less).1), subst (λ (x : Holds). DamagedAt x file c.loop-d.d k) same h.1)) (λ f h. h) (λ f h. h)
-          c.in-err-look.ensures.told);
+          c.in_err-look.ensures.told);
     }
 
 pub loop-d-preserved : goal.loop-d-preserved
@@ -41,8 +41,8 @@ loop-d-preserved g c =
     let same = looked_same _ _ _ _ _ old.0 in
     let d = c.loop-d.d in
     let small : d < 4 = omega arith in (
-      looked_then _ _ _ _ _ _ _ old.0 c.in-ok-look.ensures.looked,
-      looked_more _ _ _ _ _ _ _ small old.1 (subst (λ (h : Holds). LookedAs h file d c.in-ok-look.look.found c.in-ok-look.look.link) same c.in-ok-look.ensures.told),
+      looked_then _ _ _ _ _ _ _ old.0 c.in_ok-look.ensures.looked,
+      looked_more _ _ _ _ _ _ _ small old.1 (subst (λ (h : Holds). LookedAs h file d c.in_ok-look.look.found c.in_ok-look.look.link) same c.in_ok-look.ensures.told),
     )
 
 pub returns : goal.returns

@@ -2,11 +2,11 @@ use Rattle.std.proofs.Common.{◌≡◌, ℕ, ◌+◌, ◌-◌, min, length, tak
 use Rattle.survey.proofs.Listings.{cut, inside}
 use Rattle.survey.proofs.listing.name_at.Goals as goal
 
-pub overflow-sub-bytes : goal.overflow-sub-bytes
-overflow-sub-bytes c = omega (arith, inside c.args.bytes.now c.args.span.place c.args.span.length c.requires)
+pub overflow_sub-bytes : goal.overflow_sub-bytes
+overflow_sub-bytes c = omega (arith, inside c.args.bytes.now c.args.span.place c.args.span.length c.requires)
 
-pub slice-bounds-result-end : goal.slice-bounds-result-end
-slice-bounds-result-end c = omega (arith, inside c.args.bytes.now c.args.span.place c.args.span.length c.requires, c.min-length.ensures)
+pub slice_bounds-result-end : goal.slice_bounds-result-end
+slice_bounds-result-end c = omega (arith, inside c.args.bytes.now c.args.span.place c.args.span.length c.requires, c.min-length.ensures)
 
 pub returns : goal.returns
 returns c =

@@ -7,46 +7,46 @@ use Rattle.set_files.proofs.Looks.{looked_one, looked_then, looked_same, looked_
 use Rattle.survey.proofs.Listings.{super_read}
 use Rattle.survey.proofs.listing.read_super.Goals as goal
 
-pub returns-in-err-length : goal.returns-in-err-length
-returns-in-err-length g c =
-    let p = err_from_is_err_and c.from-residual.result c.from-residual.ensures.1 in
+pub returns-in_err-length : goal.returns-in_err-length
+returns-in_err-length g c =
+    let p = err_from_is_err_and c.from_residual.result c.from_residual.ensures.1 in
     let failed = p.1 ∙ ap (λ (e : SetFault). Err e) p.2 in
     record {
-      looked = looked_failed _ _ _ _ _ _ _ failed (looked_one _ _ _ _ _ _ _ _ _ _ refl tt (inr refl) c.in-err-length.ensures.went);
-      told = IfOk-from_err _ _ c.from-residual.ensures.0;
+      looked = looked_failed _ _ _ _ _ _ _ failed (looked_one _ _ _ _ _ _ _ _ _ _ refl tt (inr refl) c.in_err-length.ensures.went);
+      told = IfOk-from_err _ _ c.from_residual.ensures.0;
     }
 
-pub returns-then-length-gt-JOURNAL-LIMIT : goal.returns-then-length-gt-JOURNAL-LIMIT
-returns-then-length-gt-JOURNAL-LIMIT g c =
-    let there = told_some _ _ (sym c.in-Some.is ∙ c.in-ok-length.ensures.told) in
+pub returns-then-length-gt-JOURNAL_LIMIT : goal.returns-then-length-gt-JOURNAL_LIMIT
+returns-then-length-gt-JOURNAL_LIMIT g c =
+    let there = told_some _ _ (sym c.in-Some.is ∙ c.in_ok-length.ensures.told) in
     record {
-      looked = looked_one _ _ _ _ _ _ _ _ _ _ refl tt (inr refl) c.in-ok-length.ensures.went;
+      looked = looked_one _ _ _ _ _ _ _ _ _ _ refl tt (inr refl) c.in_ok-length.ensures.went;
       told = (there.0, there.1, omega (arith, there.2));
     }
 
-pub returns-in-err-read : goal.returns-in-err-read
-returns-in-err-read g c =
-    let p = err_from_is_err_and c.from-residual-in-err-read.result c.from-residual-in-err-read.ensures.1 in
+pub returns-in_err-read : goal.returns-in_err-read
+returns-in_err-read g c =
+    let p = err_from_is_err_and c.from_residual-in_err-read.result c.from_residual-in_err-read.ensures.1 in
     let failed = p.1 ∙ ap (λ (e : SetFault). Err e) p.2 in
-    let name = c.bytes.ensures ∙ c.file_name.ensures in
+    let name = c.bytes.ensures ∙ c.file-name.ensures in
     record {
       looked = looked_failed _ _ _ _ _ _ _ failed
-          (looked_then _ _ _ _ _ _ _ (looked_one _ _ _ _ _ _ _ _ _ _ refl tt (inr refl) c.in-ok-length.ensures.went)
-          (looked_one _ _ _ _ _ _ _ _ _ _ c.new.ensures tt (inr name) c.in-err-read.ensures.went));
-      told = IfOk-from_err _ _ c.from-residual-in-err-read.ensures.0;
+          (looked_then _ _ _ _ _ _ _ (looked_one _ _ _ _ _ _ _ _ _ _ refl tt (inr refl) c.in_ok-length.ensures.went)
+          (looked_one _ _ _ _ _ _ _ _ _ _ c.new.ensures tt (inr name) c.in_err-read.ensures.went));
+      told = IfOk-from_err _ _ c.from_residual-in_err-read.ensures.0;
     }
 
 pub returns : goal.returns
 returns g c =
-    let name = c.bytes.ensures ∙ c.file_name.ensures in
-    let there = told_some _ _ (sym c.in-Some.is ∙ c.in-ok-length.ensures.told) in
-    let first = looked_one _ R1 (file_of c.args.names.now) _ _ _ _ _ _ _ refl tt (inr refl) c.in-ok-length.ensures.went in
+    let name = c.bytes.ensures ∙ c.file-name.ensures in
+    let there = told_some _ _ (sym c.in-Some.is ∙ c.in_ok-length.ensures.told) in
+    let first = looked_one _ R1 (file_of c.args.names.now) _ _ _ _ _ _ _ refl tt (inr refl) c.in_ok-length.ensures.went in
     let same = looked_same _ _ _ _ _ first in
     let held : g.C.Card.holds c.length_of.new.card c.bytes.result.now ≡ Some there.0 =
     ap (g.C.Card.holds c.length_of.new.card) name ∙ ap (λ (h : Holds). h (file_of c.args.names.now 8)) same ∙ there.1 in
     let short : c.in-Some.length ≤ 17724 = omega arith in
     let room : length c.args.buffer.now ≡ 17724 = omega arith in
     record {
-      looked = looked_then _ _ _ _ _ _ _ first (looked_one _ _ _ _ _ _ _ _ _ _ c.new.ensures tt (inr name) c.in-ok-read.ensures.went);
-      told = (there.0, there.1, (there.2, short, super_read there.0 c.args.buffer.now c.read.new.buffer _ c.in-Some.length _ there.2 short room held c.in-ok-read.ensures.told));
+      looked = looked_then _ _ _ _ _ _ _ first (looked_one _ _ _ _ _ _ _ _ _ _ c.new.ensures tt (inr name) c.in_ok-read.ensures.went);
+      told = (there.0, there.1, (there.2, short, super_read there.0 c.args.buffer.now c.read.new.buffer _ c.in-Some.length _ there.2 short room held c.in_ok-read.ensures.told));
     }

@@ -11,17 +11,17 @@ use Rattle.set_files.proofs.Looks.{looked_then, looked_same, looked_refused, say
 use Rattle.survey.proofs.Surveyed.{all_seen, reported, names_ours, asked_by, foreign_by, none_asked, asked_present}
 use Rattle.survey.proofs.overview.survey.Goals as goal
 
-pub returns-in-err-journals : goal.returns-in-err-journals
-returns-in-err-journals g c =
-    let p = err_from_is_err_and c.from-residual-in-err-journals.result c.from-residual-in-err-journals.ensures.1 in
+pub returns-in_err-journals : goal.returns-in_err-journals
+returns-in_err-journals g c =
+    let p = err_from_is_err_and c.from_residual-in_err-journals.result c.from_residual-in_err-journals.ensures.1 in
     let failed = p.1 ∙ ap (λ (e : Refusal). Err e) p.2 in
     let file = file_of c.args.names.now in
     let n = c.args.names.now.count in
     let files = g.C.Card.holds c.args.card.now in
-    let first = c.in-ok-all-present.ensures in
+    let first = c.in_ok-all_present.ensures in
     let same = looked_same _ _ _ _ _ first.looked in
     record {
-      looked = looked_refused _ _ _ _ _ _ _ failed (looked_then _ _ _ _ _ _ _ first.looked c.in-err-journals.ensures.looked);
+      looked = looked_refused _ _ _ _ _ _ _ failed (looked_then _ _ _ _ _ _ _ first.looked c.in_err-journals.ensures.looked);
       told =
           subst (λ (x : Result (List Found) Refusal). Finds files file n x) (sym failed)
           (says_more _ _ (Damage files file n) _ (Stranger files file n) _ (FirstAbsent files file n)
@@ -36,7 +36,7 @@ returns-in-err-journals g c =
               damaged = subst (λ (x : Holds). DamagedAt x file h.0 k) same h.4;
             },
           ))
-          (λ f h. absurd h) (λ f h. absurd h) c.in-err-journals.ensures.told);
+          (λ f h. absurd h) (λ f h. absurd h) c.in_err-journals.ensures.told);
     }
 
 pub returns-in-Some : goal.returns-in-Some
@@ -44,16 +44,16 @@ returns-in-Some g c =
     let file = file_of c.args.names.now in
     let n = c.args.names.now.count in
     let files = g.C.Card.holds c.args.card.now in
-    let first = c.in-ok-all-present.ensures in
+    let first = c.in_ok-all_present.ensures in
     let same = looked_same _ _ _ _ _ first.looked in
-    let found = c.in-ok-journals.journals.found in
-    let links = c.in-ok-journals.journals.links in
-    let all = subst (λ (x : Holds). AllLooked x file n found links) same c.in-ok-journals.ensures.told in
+    let found = c.in_ok-journals.journals.found in
+    let links = c.in_ok-journals.journals.links in
+    let all = subst (λ (x : Holds). AllLooked x file n found links) same c.in_ok-journals.ensures.told in
     let d = c.in-Some.d in
     let here = c.in-Some.ensures in
     let lt : d < n = omega (arith, here.0) in
     record {
-      looked = looked_then _ _ _ _ _ _ _ first.looked c.in-ok-journals.ensures.looked;
+      looked = looked_then _ _ _ _ _ _ _ first.looked c.in_ok-journals.ensures.looked;
       told = inl (
         d,
         refl,
@@ -67,63 +67,63 @@ returns-in-Some g c =
       );
     }
 
-pub returns-in-default-first-linked : goal.returns-in-default-first-linked
-returns-in-default-first-linked g c =
+pub returns-in_default-first_linked : goal.returns-in_default-first_linked
+returns-in_default-first_linked g c =
     let file = file_of c.args.names.now in
     let n = c.args.names.now.count in
     let files = g.C.Card.holds c.args.card.now in
-    let first = c.in-ok-all-present.ensures in
+    let first = c.in_ok-all_present.ensures in
     let same = looked_same _ _ _ _ _ first.looked in
-    let found = c.in-ok-journals.journals.found in
-    let links = c.in-ok-journals.journals.links in
-    let all = subst (λ (x : Holds). AllLooked x file n found links) same c.in-ok-journals.ensures.told in
+    let found = c.in_ok-journals.journals.found in
+    let links = c.in_ok-journals.journals.links in
+    let all = subst (λ (x : Holds). AllLooked x file n found links) same c.in_ok-journals.ensures.told in
     record {
-      looked = looked_then _ _ _ _ _ _ _ first.looked c.in-ok-journals.ensures.looked;
+      looked = looked_then _ _ _ _ _ _ _ first.looked c.in_ok-journals.ensures.looked;
       told =
           record {
             present = first.told;
             journals = reported files file n found links all;
-            ours = names_ours files file n found links all n (omega arith) (λ d lt e. c.in-default.ensures d (omega arith) e);
-            listed = λ a. absurd (none_asked files file n found links all (λ d lt e. c.in-default-first-linked.ensures d (omega arith) e) a);
+            ours = names_ours files file n found links all n (omega arith) (λ d lt e. c.in_default.ensures d (omega arith) e);
+            listed = λ a. absurd (none_asked files file n found links all (λ d lt e. c.in_default-first_linked.ensures d (omega arith) e) a);
           };
     }
 
-pub check-super-requires : goal.check-super-requires
-check-super-requires g c =
+pub check_super-requires : goal.check_super-requires
+check_super-requires g c =
     let file = file_of c.args.names.now in
     let n = c.args.names.now.count in
     let files = g.C.Card.holds c.args.card.now in
-    let first = c.in-ok-all-present.ensures in
+    let first = c.in_ok-all_present.ensures in
     let same = looked_same _ _ _ _ _ first.looked in
-    let found = c.in-ok-journals.journals.found in
-    let links = c.in-ok-journals.journals.links in
-    let all = subst (λ (x : Holds). AllLooked x file n found links) same c.in-ok-journals.ensures.told in
-    let here = c.in-Some-first-linked.ensures in
-    let lt : c.in-Some-first-linked.field-0 < n = omega (arith, here.0) in
-    let same₂ = looked_same _ _ _ _ _ (looked_then _ _ _ _ _ _ _ first.looked c.in-ok-journals.ensures.looked) in
-    subst (λ (x : Holds). Present (x (file 8))) (sym same₂) (asked_present files file n (asked_by files file n found links all c.in-Some-first-linked.field-0 lt here.1))
+    let found = c.in_ok-journals.journals.found in
+    let links = c.in_ok-journals.journals.links in
+    let all = subst (λ (x : Holds). AllLooked x file n found links) same c.in_ok-journals.ensures.told in
+    let here = c.in-Some-first_linked.ensures in
+    let lt : c.in-Some-first_linked.field-0 < n = omega (arith, here.0) in
+    let same₂ = looked_same _ _ _ _ _ (looked_then _ _ _ _ _ _ _ first.looked c.in_ok-journals.ensures.looked) in
+    subst (λ (x : Holds). Present (x (file 8))) (sym same₂) (asked_present files file n (asked_by files file n found links all c.in-Some-first_linked.field-0 lt here.1))
 
-pub returns-in-err-check-super : goal.returns-in-err-check-super
-returns-in-err-check-super g c =
-    let p = err_from_is_err_and c.from-residual-in-err-check-super.result c.from-residual-in-err-check-super.ensures.1 in
+pub returns-in_err-check_super : goal.returns-in_err-check_super
+returns-in_err-check_super g c =
+    let p = err_from_is_err_and c.from_residual-in_err-check_super.result c.from_residual-in_err-check_super.ensures.1 in
     let failed = p.1 ∙ ap (λ (e : Refusal). Err e) p.2 in
     let file = file_of c.args.names.now in
     let n = c.args.names.now.count in
     let files = g.C.Card.holds c.args.card.now in
-    let first = c.in-ok-all-present.ensures in
+    let first = c.in_ok-all_present.ensures in
     let same = looked_same _ _ _ _ _ first.looked in
-    let found = c.in-ok-journals.journals.found in
-    let links = c.in-ok-journals.journals.links in
-    let all = subst (λ (x : Holds). AllLooked x file n found links) same c.in-ok-journals.ensures.told in
-    let here = c.in-Some-first-linked.ensures in
-    let lt : c.in-Some-first-linked.field-0 < n = omega (arith, here.0) in
-    let both = looked_then _ _ _ _ _ _ _ first.looked c.in-ok-journals.ensures.looked in
+    let found = c.in_ok-journals.journals.found in
+    let links = c.in_ok-journals.journals.links in
+    let all = subst (λ (x : Holds). AllLooked x file n found links) same c.in_ok-journals.ensures.told in
+    let here = c.in-Some-first_linked.ensures in
+    let lt : c.in-Some-first_linked.field-0 < n = omega (arith, here.0) in
+    let both = looked_then _ _ _ _ _ _ _ first.looked c.in_ok-journals.ensures.looked in
     let same₂ = looked_same _ _ _ _ _ both in
     let seen = all_seen files file n found links all in
-    let ours = names_ours files file n found links all n (omega arith) (λ d lt e. c.in-default.ensures d (omega arith) e) in
-    let asked = asked_by files file n found links all c.in-Some-first-linked.field-0 lt here.1 in
+    let ours = names_ours files file n found links all n (omega arith) (λ d lt e. c.in_default.ensures d (omega arith) e) in
+    let asked = asked_by files file n found links all c.in-Some-first_linked.field-0 lt here.1 in
     record {
-      looked = looked_refused _ _ _ _ _ _ _ failed (looked_then _ _ _ _ _ _ _ both c.in-err-check-super.ensures.looked);
+      looked = looked_refused _ _ _ _ _ _ _ failed (looked_then _ _ _ _ _ _ _ both c.in_err-check_super.ensures.looked);
       told =
           subst (λ (x : Result (List Found) Refusal). Finds files file n x) (sym failed)
           (says_more _ _ (Damage files file n) _ (Stranger files file n) _ (FirstAbsent files file n)
@@ -150,7 +150,7 @@ returns-in-err-check-super g c =
               foreign = subst (λ (x : Holds). (b : Bytes) × (x (file 8) ≡ Some b) × ((ns : List Name) × Strays x file n b ns)) same₂ h.1;
             },
           ))
-          (λ f h. absurd h) c.in-err-check-super.ensures.told);
+          (λ f h. absurd h) c.in_err-check_super.ensures.told);
     }
 
 pub returns : goal.returns
@@ -158,20 +158,20 @@ returns g c =
     let file = file_of c.args.names.now in
     let n = c.args.names.now.count in
     let files = g.C.Card.holds c.args.card.now in
-    let first = c.in-ok-all-present.ensures in
+    let first = c.in_ok-all_present.ensures in
     let same = looked_same _ _ _ _ _ first.looked in
-    let found = c.in-ok-journals.journals.found in
-    let links = c.in-ok-journals.journals.links in
-    let all = subst (λ (x : Holds). AllLooked x file n found links) same c.in-ok-journals.ensures.told in
-    let both = looked_then _ _ _ _ _ _ _ first.looked c.in-ok-journals.ensures.looked in
+    let found = c.in_ok-journals.journals.found in
+    let links = c.in_ok-journals.journals.links in
+    let all = subst (λ (x : Holds). AllLooked x file n found links) same c.in_ok-journals.ensures.told in
+    let both = looked_then _ _ _ _ _ _ _ first.looked c.in_ok-journals.ensures.looked in
     let same₂ = looked_same _ _ _ _ _ both in
     record {
-      looked = looked_then _ _ _ _ _ _ _ both c.in-ok-check-super.ensures.looked;
+      looked = looked_then _ _ _ _ _ _ _ both c.in_ok-check_super.ensures.looked;
       told =
           record {
             present = first.told;
             journals = reported files file n found links all;
-            ours = names_ours files file n found links all n (omega arith) (λ d lt e. c.in-default.ensures d (omega arith) e);
-            listed = λ a. subst (λ (x : Holds). (b : Bytes) × (x (file 8) ≡ Some b) × ((ns : List Name) × Listed x file n b ns)) same₂ c.in-ok-check-super.ensures.told;
+            ours = names_ours files file n found links all n (omega arith) (λ d lt e. c.in_default.ensures d (omega arith) e);
+            listed = λ a. subst (λ (x : Holds). (b : Bytes) × (x (file 8) ≡ Some b) × ((ns : List Name) × Listed x file n b ns)) same₂ c.in_ok-check_super.ensures.told;
           };
     }

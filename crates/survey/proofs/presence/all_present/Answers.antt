@@ -8,22 +8,22 @@ use Rattle.survey.proofs.presence.all_present.Goals as goal
 pub loop-d-init : goal.loop-d-init
 loop-d-init g c = (looked_end _ _ _ _, λ k lt. absurd (omega arith))
 
-pub returns-in-err-length-of : goal.returns-in-err-length-of
-returns-in-err-length-of g c =
-    let p = err_from_is_err_and c.from-residual.result c.from-residual.ensures.1 in
+pub returns-in_err-length_of : goal.returns-in_err-length_of
+returns-in_err-length_of g c =
+    let p = err_from_is_err_and c.from_residual.result c.from_residual.ensures.1 in
     let failed = p.1 ∙ ap (λ (e : Refusal). Err e) p.2 in
     record {
-      looked = looked_up _ _ _ _ _ _ _ failed (looked_then _ _ _ _ _ _ _ c.loop-d.invariant.0 (looked_one _ _ _ _ _ _ _ _ _ _ refl tt (inr refl) c.in-err-length-of.ensures.went));
+      looked = looked_up _ _ _ _ _ _ _ failed (looked_then _ _ _ _ _ _ _ c.loop-d.invariant.0 (looked_one _ _ _ _ _ _ _ _ _ _ refl tt (inr refl) c.in_err-length_of.ensures.went));
       told = told_card _ _ _ _ _ _ failed;
     }
 
-pub returns-in-default : goal.returns-in-default
-returns-in-default g c =
+pub returns-in_default : goal.returns-in_default
+returns-in_default g c =
     let file = file_of c.args.names.now in
     let same = looked_same _ _ _ _ _ c.loop-d.invariant.0 in
-    let gone = told_absent _ _ c.in-default.is c.in-ok-length-of.ensures.told in
+    let gone = told_absent _ _ c.in_default.is c.in_ok-length_of.ensures.told in
     record {
-      looked = looked_then _ _ _ _ _ _ _ c.loop-d.invariant.0 (looked_one _ _ _ _ _ _ _ _ _ _ refl tt (inr refl) c.in-ok-length-of.ensures.went);
+      looked = looked_then _ _ _ _ _ _ _ c.loop-d.invariant.0 (looked_one _ _ _ _ _ _ _ _ _ _ refl tt (inr refl) c.in_ok-length_of.ensures.went);
       told = record { within = omega arith; absent = subst (λ (h : Holds). h (file c.loop-d.d) ≡ None) same gone; before = c.loop-d.invariant.1 };
     }
 
@@ -31,8 +31,8 @@ pub loop-d-preserved : goal.loop-d-preserved
 loop-d-preserved g c =
     let file = file_of c.args.names.now in
     let same = looked_same _ _ _ _ _ c.loop-d.invariant.0 in
-    let there = told_some _ _ (sym c.in-Some.is ∙ c.in-ok-length-of.ensures.told) in (
-      looked_then _ _ _ _ _ _ _ c.loop-d.invariant.0 (looked_one _ _ _ _ _ _ _ _ _ _ refl tt (inr refl) c.in-ok-length-of.ensures.went),
+    let there = told_some _ _ (sym c.in-Some.is ∙ c.in_ok-length_of.ensures.told) in (
+      looked_then _ _ _ _ _ _ _ c.loop-d.invariant.0 (looked_one _ _ _ _ _ _ _ _ _ _ refl tt (inr refl) c.in_ok-length_of.ensures.went),
       below_more (λ (k : ℕ). Present (g.C.Card.holds c.args.card.now (file k))) _ c.loop-d.invariant.1 (subst (λ (h : Holds). Present (h (file c.loop-d.d))) same (there.0, there.1)),
     )
 
