@@ -11,20 +11,20 @@ use Rattle.recovery.proofs.lengths.measure.Goals as goal
 pub loop-d-init : goal.loop-d-init
 loop-d-init g c = (looked_end _ _ _ _, none_measured _ _)
 
-pub returns-in-err-sizes : goal.returns-in-err-sizes
-returns-in-err-sizes g c =
-    let p = err_from_is_err_and c.from-residual.result c.from-residual.ensures.1 in
+pub returns-in_err-sizes : goal.returns-in_err-sizes
+returns-in_err-sizes g c =
+    let p = err_from_is_err_and c.from_residual.result c.from_residual.ensures.1 in
     let failed = p.1 ∙ ap (λ (e : Refusal). Err e) p.2 in
     let file = file_of c.args.names.now in
     let old = c.loop-d.invariant in
     let same = looked_same _ _ _ _ _ old.0 in
     let lt : c.loop-d.d < c.args.names.now.count = omega arith in
     record {
-      looked = looked_refused _ _ _ _ _ _ _ failed (looked_then _ _ _ _ _ _ _ old.0 c.in-err-sizes.ensures.looked);
+      looked = looked_refused _ _ _ _ _ _ _ failed (looked_then _ _ _ _ _ _ _ old.0 c.in_err-sizes.ensures.looked);
       told =
           subst (λ (x : Result (List ℕ) Refusal). Measured (g.C.Card.holds c.args.card.now) file c.args.names.now.count x) (sym failed)
           (says_more _ _ never₂ _ never _ (Unsized (g.C.Card.holds c.args.card.now) file c.args.names.now.count) (λ f k h. h) (λ f h. h)
-          (λ i h. unsized_at _ _ file _ c.loop-d.d _ i same lt old.1 h) c.in-err-sizes.ensures.told);
+          (λ i h. unsized_at _ _ file _ c.loop-d.d _ i same lt old.1 h) c.in_err-sizes.ensures.told);
     }
 
 pub loop-d-preserved : goal.loop-d-preserved
@@ -34,8 +34,8 @@ loop-d-preserved g c =
     let same = looked_same _ _ _ _ _ old.0 in
     let d = c.loop-d.d in
     let small : d < 4 = omega arith in (
-      looked_then _ _ _ _ _ _ _ old.0 c.in-ok-sizes.ensures.looked,
-      measured_more _ _ _ _ _ small old.1 (subst (λ (h : Holds). HasPages (h (file d)) c.in-ok-sizes.field-0) same c.in-ok-sizes.ensures.told),
+      looked_then _ _ _ _ _ _ _ old.0 c.in_ok-sizes.ensures.looked,
+      measured_more _ _ _ _ _ small old.1 (subst (λ (h : Holds). HasPages (h (file d)) c.in_ok-sizes.field-0) same c.in_ok-sizes.ensures.told),
     )
 
 pub returns : goal.returns

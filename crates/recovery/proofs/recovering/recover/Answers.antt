@@ -6,17 +6,17 @@ use Rattle.survey.specs.Seen.{AllSeen}
 use Rattle.set_files.proofs.Looks.{looked_same}
 use Rattle.recovery.proofs.recovering.recover.Goals as goal
 
-pub returns-in-err-found : goal.returns-in-err-found
-returns-in-err-found g c =
-    let p = err_from_is_err_and c.from-residual.result c.from-residual.ensures.1 in
+pub returns-in_err-found : goal.returns-in_err-found
+returns-in_err-found g c =
+    let p = err_from_is_err_and c.from_residual.result c.from_residual.ensures.1 in
     let failed = p.1 ∙ ap (λ (e : Refusal). Err e) p.2 in
     record {
       start = c.power.new.self;
       then = c.survey.new.card;
-      found = Err c.in-err-found.field-0.0;
+      found = Err c.in_err-found.field-0.0;
       switched = c.power.ensures;
-      looked = c.in-err-found.ensures.looked;
-      finds = c.in-err-found.ensures.told;
+      looked = c.in_err-found.ensures.looked;
+      finds = c.in_err-found.ensures.told;
       after = (failed, refl);
     }
 
@@ -24,45 +24,45 @@ pub settle-requires : goal.settle-requires
 settle-requires g c =
     let file = file_of c.args.names.now in
     let n = c.args.names.now.count in
-    let seen = c.in-ok-found.ensures.told.journals.reported in
-    let same = looked_same _ _ _ _ _ c.in-ok-found.ensures.looked in
-    (seen.0, subst (λ (x : Holds). AllSeen x file n c.in-ok-found.found seen.0) (sym same) seen.1)
+    let seen = c.in_ok-found.ensures.told.journals.reported in
+    let same = looked_same _ _ _ _ _ c.in_ok-found.ensures.looked in
+    (seen.0, subst (λ (x : Holds). AllSeen x file n c.in_ok-found.found seen.0) (sym same) seen.1)
 
-pub returns-in-err-settle : goal.returns-in-err-settle
-returns-in-err-settle g c =
-    let p = err_from_is_err_and c.from-residual-in-err-settle.result c.from-residual-in-err-settle.ensures.1 in
+pub returns-in_err-settle : goal.returns-in_err-settle
+returns-in_err-settle g c =
+    let p = err_from_is_err_and c.from_residual-in_err-settle.result c.from_residual-in_err-settle.ensures.1 in
     let failed = p.1 ∙ ap (λ (e : Refusal). Err e) p.2 in
     record {
       start = c.power.new.self;
       then = c.survey.new.card;
-      found = Ok c.in-ok-found.found;
+      found = Ok c.in_ok-found.found;
       switched = c.power.ensures;
-      looked = c.in-ok-found.ensures.looked;
-      finds = c.in-ok-found.ensures.told;
-      after = record { then = c.settle.new.card; done = Err c.in-err-settle.field-0.0; went = c.in-err-settle.ensures; after = (failed, refl) };
+      looked = c.in_ok-found.ensures.looked;
+      finds = c.in_ok-found.ensures.told;
+      after = record { then = c.settle.new.card; done = Err c.in_err-settle.field-0.0; went = c.in_err-settle.ensures; after = (failed, refl) };
     }
 
-pub returns-in-err-sizes : goal.returns-in-err-sizes
-returns-in-err-sizes g c =
-    let p = err_from_is_err_and c.from-residual-in-err-sizes.result c.from-residual-in-err-sizes.ensures.1 in
+pub returns-in_err-sizes : goal.returns-in_err-sizes
+returns-in_err-sizes g c =
+    let p = err_from_is_err_and c.from_residual-in_err-sizes.result c.from_residual-in_err-sizes.ensures.1 in
     let failed = p.1 ∙ ap (λ (e : Refusal). Err e) p.2 in
     record {
       start = c.power.new.self;
       then = c.survey.new.card;
-      found = Ok c.in-ok-found.found;
+      found = Ok c.in_ok-found.found;
       switched = c.power.ensures;
-      looked = c.in-ok-found.ensures.looked;
-      finds = c.in-ok-found.ensures.told;
+      looked = c.in_ok-found.ensures.looked;
+      finds = c.in_ok-found.ensures.told;
       after =
           record {
             then = c.settle.new.card;
             done = Ok tt;
-            went = c.in-ok-settle.ensures;
+            went = c.in_ok-settle.ensures;
             after =
                 record {
-                  sizes = Err c.in-err-sizes.field-0.0;
-                  looked = c.in-err-sizes.ensures.looked;
-                  measured = c.in-err-sizes.ensures.told;
+                  sizes = Err c.in_err-sizes.field-0.0;
+                  looked = c.in_err-sizes.ensures.looked;
+                  measured = c.in_err-sizes.ensures.told;
                   answer = failed;
                 };
           };
@@ -73,20 +73,20 @@ returns g c =
     record {
       start = c.power.new.self;
       then = c.survey.new.card;
-      found = Ok c.in-ok-found.found;
+      found = Ok c.in_ok-found.found;
       switched = c.power.ensures;
-      looked = c.in-ok-found.ensures.looked;
-      finds = c.in-ok-found.ensures.told;
+      looked = c.in_ok-found.ensures.looked;
+      finds = c.in_ok-found.ensures.told;
       after =
           record {
             then = c.settle.new.card;
             done = Ok tt;
-            went = c.in-ok-settle.ensures;
+            went = c.in_ok-settle.ensures;
             after =
                 record {
-                  sizes = Ok c.in-ok-sizes.sizes;
-                  looked = c.in-ok-sizes.ensures.looked;
-                  measured = c.in-ok-sizes.ensures.told;
+                  sizes = Ok c.in_ok-sizes.sizes;
+                  looked = c.in_ok-sizes.ensures.looked;
+                  measured = c.in_ok-sizes.ensures.told;
                   answer = refl;
                 };
           };

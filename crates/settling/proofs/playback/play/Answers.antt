@@ -10,27 +10,27 @@ use Rattle.steps.proofs.Went.{went_then}
 use Rattle.settling.proofs.UpTo.{went_fail}
 use Rattle.settling.proofs.playback.play.Goals as goal
 
-pub returns-in-err-sound : goal.returns-in-err-sound
-returns-in-err-sound g c =
-    let p = err_from_is_err_and c.from-residual.result c.from-residual.ensures.1 in
+pub returns-in_err-sound : goal.returns-in_err-sound
+returns-in_err-sound g c =
+    let p = err_from_is_err_and c.from_residual.result c.from_residual.ensures.1 in
     let failed = p.1 ∙ ap (λ (e : SetFault). Err e) p.2 in
-    λ j ok e. went_fail _ {V = SoundParts} (_ ∷ _ ∷ []) _ _ _ _ _ failed (c.in-err-sound.ensures.went j ok e)
+    λ j ok e. went_fail _ {V = SoundParts} (_ ∷ _ ∷ []) _ _ _ _ _ failed (c.in_err-sound.ensures.went j ok e)
 
-pub returns-in-err-write-records : goal.returns-in-err-write-records
-returns-in-err-write-records g c =
-    let p = err_from_is_err_and c.from-residual-in-err-write-records.result c.from-residual-in-err-write-records.ensures.1 in
+pub returns-in_err-write_records : goal.returns-in_err-write_records
+returns-in_err-write_records g c =
+    let p = err_from_is_err_and c.from_residual-in_err-write_records.result c.from_residual-in_err-write_records.ensures.1 in
     let failed = p.1 ∙ ap (λ (e : SetFault). Err e) p.2 in
     λ j ok e.
-    let told = c.in-ok-sound.ensures.told j ok e in
-    went_then _ (_ ∷ _ ∷ []) _ _ _ _ _ _ (c.in-ok-sound.ensures.went j ok e)
-    (went_fail _ _ _ _ _ _ _ failed (c.in-err-write-records.ensures j (c.journal_in.ensures j _ ok told.0 told.1)))
+    let told = c.in_ok-sound.ensures.told j ok e in
+    went_then _ (_ ∷ _ ∷ []) _ _ _ _ _ _ (c.in_ok-sound.ensures.went j ok e)
+    (went_fail _ _ _ _ _ _ _ failed (c.in_err-write_records.ensures j (c.journal_in.ensures j _ ok told.0 told.1)))
 
 pub returns : goal.returns
 returns g c =
     let m : Meaning g.row.C.Denot = record { on = g.C.Card.on; holds = g.C.Card.holds; remains = g.C.Card.remains; origins = g.C.Card.origins } in
     λ j ok e.
-    let told = c.in-ok-sound.ensures.told j ok e in
+    let told = c.in_ok-sound.ensures.told j ok e in
     let finished =
-    subst (λ (k : ℕ). Went m (finish_tasks (file_of c.args.names.now) c.args.d k) c.write-records.new.card c.finish.result c.finish.new.card) told.0.size c.finish.ensures in
-    went_then _ (_ ∷ _ ∷ []) _ _ _ _ _ _ (c.in-ok-sound.ensures.went j ok e)
-    (went_then _ _ _ _ _ _ _ _ (c.in-ok-write-records.ensures j (c.journal_in.ensures j _ ok told.0 told.1)) finished)
+    subst (λ (k : ℕ). Went m (finish_tasks (file_of c.args.names.now) c.args.d k) c.write_records.new.card c.finish.result c.finish.new.card) told.0.size c.finish.ensures in
+    went_then _ (_ ∷ _ ∷ []) _ _ _ _ _ _ (c.in_ok-sound.ensures.went j ok e)
+    (went_then _ _ _ _ _ _ _ _ (c.in_ok-write_records.ensures j (c.journal_in.ensures j _ ok told.0 told.1)) finished)

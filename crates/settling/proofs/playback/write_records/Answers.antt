@@ -12,19 +12,19 @@ use Rattle.settling.proofs.playback.write_records.Goals as goal
 pub loop-index-init : goal.loop-index-init
 loop-index-init g c = λ j of. up_none _ _ _
 
-pub write-record-requires : goal.write-record-requires
-write-record-requires g c = (c.requires.0, c.requires.1, omega (arith, c.requires.1.parts.count))
+pub write_record-requires : goal.write_record-requires
+write_record-requires g c = (c.requires.0, c.requires.1, omega (arith, c.requires.1.parts.count))
 
-pub returns-in-err-write-record : goal.returns-in-err-write-record
-returns-in-err-write-record g c =
-    let p = err_from_is_err_and c.from-residual.result c.from-residual.ensures.1 in
+pub returns-in_err-write_record : goal.returns-in_err-write_record
+returns-in_err-write_record g c =
+    let p = err_from_is_err_and c.from_residual.result c.from_residual.ensures.1 in
     let failed = p.1 ∙ ap (λ (e : SetFault). Err e) p.2 in
     λ j of.
     let lt : c.loop-index.index < length j.records = omega (arith, of.parts.count) in
-    went_up _ {V = Unit {0}} _ _ _ _ _ failed (up_stop _ _ _ _ _ _ _ _ lt (c.loop-index.invariant j of) (c.in-err-write-record.ensures j of))
+    went_up _ {V = Unit {0}} _ _ _ _ _ failed (up_stop _ _ _ _ _ _ _ _ lt (c.loop-index.invariant j of) (c.in_err-write_record.ensures j of))
 
 pub loop-index-preserved : goal.loop-index-preserved
-loop-index-preserved g c = λ j of. up_more _ _ _ _ _ _ (Ok tt) (c.loop-index.invariant j of) (c.in-ok-write-record.ensures j of)
+loop-index-preserved g c = λ j of. up_more _ _ _ _ _ _ (Ok tt) (c.loop-index.invariant j of) (c.in_ok-write_record.ensures j of)
 
 pub returns : goal.returns
 returns g c =

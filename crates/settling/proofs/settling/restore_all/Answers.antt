@@ -24,9 +24,9 @@ restore-requires g c =
     let here = all c.loop-d.d lt in
     record { few = small; seen = (seen c.loop-d.d, still_stands _ c.args.names.now seen _ _ _ lt few here.0 old, here.1) }
 
-pub returns-in-err-restore : goal.returns-in-err-restore
-returns-in-err-restore g c =
-    let p = err_from_is_err_and c.from-residual.result c.from-residual.ensures.1 in
+pub returns-in_err-restore : goal.returns-in_err-restore
+returns-in_err-restore g c =
+    let p = err_from_is_err_and c.from_residual.result c.from_residual.ensures.1 in
     let failed = p.1 ∙ ap (λ (e : SetFault). Err e) p.2 in
     let lt : c.loop-d.d < c.args.names.now.count = omega arith in
     let few : c.args.names.now.count ≤ 4 = omega arith in
@@ -34,7 +34,7 @@ returns-in-err-restore g c =
     let old = c.loop-d.invariant seen all in
     let here = all c.loop-d.d lt in
     went_up _ {V = Unit {0}} _ _ _ _ _ failed
-    (up_stop _ _ _ _ _ _ _ _ lt old (c.in-err-restore.ensures (seen c.loop-d.d) (still_stands _ c.args.names.now seen _ _ _ lt few here.0 old) here.1))
+    (up_stop _ _ _ _ _ _ _ _ lt old (c.in_err-restore.ensures (seen c.loop-d.d) (still_stands _ c.args.names.now seen _ _ _ lt few here.0 old) here.1))
 
 pub loop-d-preserved : goal.loop-d-preserved
 loop-d-preserved g c =
@@ -43,7 +43,7 @@ loop-d-preserved g c =
     λ seen all.
     let old = c.loop-d.invariant seen all in
     let here = all c.loop-d.d lt in
-    up_more _ _ _ _ _ _ (Ok tt) old (c.in-ok-restore.ensures (seen c.loop-d.d) (still_stands _ c.args.names.now seen _ _ _ lt few here.0 old) here.1)
+    up_more _ _ _ _ _ _ (Ok tt) old (c.in_ok-restore.ensures (seen c.loop-d.d) (still_stands _ c.args.names.now seen _ _ _ lt few here.0 old) here.1)
 
 pub returns : goal.returns
 returns g c =

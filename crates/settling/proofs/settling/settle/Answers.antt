@@ -10,17 +10,17 @@ use Rattle.settling.proofs.UpTo.{went_fail}
 use Rattle.settling.proofs.Restored.{super_kept}
 use Rattle.settling.proofs.settling.settle.Goals as goal
 
-pub returns-in-err-restore-all : goal.returns-in-err-restore-all
-returns-in-err-restore-all g c =
-    let p = err_from_is_err_and c.from-residual.result c.from-residual.ensures.1 in
+pub returns-in_err-restore_all : goal.returns-in_err-restore_all
+returns-in_err-restore_all g c =
+    let p = err_from_is_err_and c.from_residual.result c.from_residual.ensures.1 in
     let failed = p.1 ∙ ap (λ (e : SetFault). Err e) p.2 in
-    λ seen all. went_fail _ {V = Unit {0}} _ _ _ _ _ _ failed (c.in-err-restore-all.ensures seen all)
+    λ seen all. went_fail _ {V = Unit {0}} _ _ _ _ _ _ failed (c.in_err-restore_all.ensures seen all)
 
 pub returns : goal.returns
 returns g c =
     let m : Meaning g.row.C.Denot = record { on = g.C.Card.on; holds = g.C.Card.holds; remains = g.C.Card.remains; origins = g.C.Card.origins } in
     let few : c.args.names.now.count ≤ 4 = omega arith in
     λ seen all.
-    let first = c.in-ok-restore-all.ensures seen all in
+    let first = c.in_ok-restore_all.ensures seen all in
     went_then _ _ _ _ _ _ _ _ first
-    (subst (λ (f : Option Bytes). Went m {V = Unit {0}} (super_tasks (file_of c.args.names.now) f) c.restore-all.new.card c.delete-super.result c.delete-super.new.card) (super_kept _ c.args.names.now seen _ _ few first) c.delete-super.ensures)
+    (subst (λ (f : Option Bytes). Went m {V = Unit {0}} (super_tasks (file_of c.args.names.now) f) c.restore_all.new.card c.delete_super.result c.delete_super.new.card) (super_kept _ c.args.names.now seen _ _ few first) c.delete_super.ensures)

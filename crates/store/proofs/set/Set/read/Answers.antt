@@ -13,11 +13,11 @@ returns-in-Some-get g c =
     let old : List ℕ = c.args.buffer.now in
     let d = c.args.database in
     let p = c.args.page in
-    let reads : Reads m d p self old (Ok tt) c.admit.new.self c.copy-from-slice.new.self (read_refusal self.mode self.begun self.memory d p (length old)) (look (fields self.memory).changed d p) =
+    let reads : Reads m d p self old (Ok tt) c.admit.new.self c.copy_from_slice.new.self (read_refusal self.mode self.begun self.memory d p (length old)) (look (fields self.memory).changed d p) =
     search rules in
     record {
       read = reads;
-      shows = shown m d p self old (Ok tt) c.admit.new.self c.copy-from-slice.new.self reads;
+      shows = shown m d p self old (Ok tt) c.admit.new.self c.copy_from_slice.new.self reads;
       begun = search rules;
       names = search rules;
       stored = search rules;
@@ -31,11 +31,11 @@ returns g c =
     let old : List ℕ = c.args.buffer.now in
     let d = c.args.database in
     let p = c.args.page in
-    let reads : Reads m d p self old c.settle.result c.settle.new.self c.read-page-answer.new.buffer (read_refusal self.mode self.begun self.memory d p (length old)) (look (fields self.memory).changed d p) =
+    let reads : Reads m d p self old c.settle.result c.settle.new.self c.read_page-answer.new.buffer (read_refusal self.mode self.begun self.memory d p (length old)) (look (fields self.memory).changed d p) =
     search rules in
     record {
       read = reads;
-      shows = shown m d p self old c.settle.result c.settle.new.self c.read-page-answer.new.buffer reads;
+      shows = shown m d p self old c.settle.result c.settle.new.self c.read_page-answer.new.buffer reads;
       begun = search rules;
       names = search rules;
       stored = search rules;

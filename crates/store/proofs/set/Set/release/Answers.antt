@@ -13,7 +13,7 @@ use Rattle.store.proofs.set.Set.release.Goals as goal
 pub returns : goal.returns
 returns g c =
     let self = c.args.self.now in
-    let well = c.in-ok-admit.ensures in
+    let well = c.in_ok-admit.ensures in
     let same = well.asked tt in
     let first : None ≡ says self.mode self.begun (Use c.args.t.now.number) = well.refusal ∙ ap (λ (n : ℕ). says self.mode self.begun (Use n)) c.number.ensures in
     record {
@@ -25,10 +25,10 @@ returns g c =
       others = but_memory same;
     }
 
-pub invariant-of-self : goal.invariant-of-self
-invariant-of-self g c =
+pub invariant_of-self : goal.invariant_of-self
+invariant_of-self g c =
     let at = c.admit.new.self in
     let bounds =
     held_bounded at.memory c.release.new.self (record { some = at.some; small = at.small }) (refused c.release.result) c.release.ensures.kept
     (λ ok files i. ap (λ (x : Machine). x.held.current i) (c.release.ensures.done ok files)) in
-    (c.release.ensures.count ∙ at.tied, (bounds.some, (bounds.small, tt)))
+    record { tied = c.release.ensures.count ∙ at.tied; some = bounds.some; small = bounds.small }

@@ -12,7 +12,7 @@ use Rattle.store.proofs.set.Set.write.Goals as goal
 pub returns : goal.returns
 returns g c =
     let self = c.args.self.now in
-    let well = c.in-ok-admit.ensures in
+    let well = c.in_ok-admit.ensures in
     let same = well.asked tt in
     let first : None ≡ says self.mode self.begun (Use c.args.t.now.number) = well.refusal ∙ ap (λ (n : ℕ). says self.mode self.begun (Use n)) c.number.ensures in
     record {
@@ -27,10 +27,10 @@ returns g c =
       others = but_memory same;
     }
 
-pub invariant-of-self : goal.invariant-of-self
-invariant-of-self g c =
+pub invariant_of-self : goal.invariant_of-self
+invariant_of-self g c =
     let at = c.admit.new.self in
     let bounds =
     write_bounded at.memory c.write.new.self (record { some = at.some; small = at.small }) (refused c.write.result) c.args.database c.args.page c.args.bytes.now c.write.ensures.refusal c.write.ensures.kept
     c.write.ensures.done in
-    (c.write.ensures.count ∙ at.tied, (bounds.some, (bounds.small, tt)))
+    record { tied = c.write.ensures.count ∙ at.tied; some = bounds.some; small = bounds.small }
