@@ -1,5 +1,5 @@
 -- The small cases of a card's calls hold.
-use Rattle.std.proofs.Common.{◌≡◌, ℕ, zero, suc, ◌+◌, ◌-◌, ◌<◌, ◌≤◌, ◌⊎◌, [], ◌∷◌, length, get_or, refl, inl, inr, arith}
+use Rattle.std.proofs.Common.{◌≡◌, ℕ, zero, suc, ◌-◌, ◌<◌, ◌≤◌, ◌⊎◌, [], ◌∷◌, get_or, refl, inl, inr, arith}
 use Rattle.card.specs.Meaning.{Bytes}
 use Rattle.card.specs.Calls.{Partly, Between}
 use Rattle.card.specs.Examples.{Examples}

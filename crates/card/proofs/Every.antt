@@ -1,10 +1,10 @@
 -- What may remain of a file after a call, however it is answered: the crash law of every card that
 -- keeps the two laws of its meaning; and with it what holds of a file whatever remains of it.
-use Rattle.std.proofs.Common.{◌≡◌, ℕ, Bool, true, false, ◌⊎◌, List, [], ◌∷◌, Some, None, Option, sym, refl, ◌∙◌, subst, inl, inr, ⊎_elim, arith}
+use Rattle.std.proofs.Common.{◌≡◌, ℕ, Bool, true, false, ◌⊎◌, List, Some, None, Option, sym, refl, ◌∙◌, subst, inl, inr, ⊎_elim, arith}
 use Rattle.card.specs.declared.fault.Cause.{Cause}
 use Rattle.card.specs.declared.fault.Cause.TheVariants.{Power, Device, Absent, Present, Range}
-use Rattle.card.specs.Meaning.{Meaning, Lawful, May, Untouched, Same, Bytes, Name}
-use Rattle.card.specs.Calls.{Op, length_of, read, create, write, set_length, sync, delete, Could, Called, Worked, Lost, tested, after_name, name_ok, worked}
+use Rattle.card.specs.Meaning.{Meaning, Lawful, May, Untouched, Bytes, Name}
+use Rattle.card.specs.Calls.{Op, length_of, read, create, write, set_length, sync, delete, Could, Called, Worked, tested, after_name, name_ok, worked}
 use Rattle.card.specs.Runs.{Act, End, Runs, end, next, stop}
 use Rattle.card.specs.Crash.{Every, Leaves, CrashLaw}
 

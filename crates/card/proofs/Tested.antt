@@ -3,7 +3,7 @@ use Rattle.std.proofs.Common.{◌≡◌, ℕ, ◌+◌, ◌≤◌, Bool, true, fa
 use Rattle.std.proofs.lemmas.Bool.{leb-true, false≢true}
 use Rattle.card.specs.declared.fault.Cause.{Cause}
 use Rattle.card.specs.Meaning.{Bytes, Name}
-use Rattle.card.specs.Calls.{Op, read, write, set_length, test, tested, after_name, in_range, name_ok, name_limit, file_limit}
+use Rattle.card.specs.Calls.{Op, read, write, set_length, test, tested, after_name, in_range, name_ok, file_limit}
 use Rattle.card.proofs.Every.{some_none}
 
 pub passed_name : (b : Bool) (x : Option Cause) → after_name b x ≡ None → (b ≡ true) × (x ≡ None)

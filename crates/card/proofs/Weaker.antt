@@ -1,5 +1,5 @@
 -- What could remain after a call's work, from more that could remain before it.
-use Rattle.std.proofs.Common.{◌≡◌, ℕ, Some, Option}
+use Rattle.std.proofs.Common.{Some, Option}
 use Rattle.card.specs.Meaning.{Bytes}
 use Rattle.card.specs.Calls.{Op, length_of, read, create, write, set_length, sync, delete, Could}
 

@@ -1,11 +1,11 @@
 -- What a lawful call's whole work leaves is among what may remain after it.
-use Rattle.std.proofs.Common.{◌≡◌, ℕ, ◌+◌, ◌-◌, ◌<◌, ◌≤◌, ◌⊎◌, length, get_or, Some, None, Option, sym, refl, ap, ◌∙◌, subst, inl, inr, arith}
+use Rattle.std.proofs.Common.{◌≡◌, ℕ, ◌+◌, ◌-◌, ◌<◌, ◌≤◌, ◌⊎◌, length, get_or, Some, None, Option, sym, ◌∙◌, subst, inl, inr, arith}
 use native.Mathlib.Decide.{dec_lt}
 use Rattle.std.proofs.lemmas.List.{get_or_past}
 use Rattle.card.specs.Meaning.{Bytes, Name}
-use Rattle.card.specs.Calls.{Op, length_of, read, create, write, set_length, sync, delete, Could, Partly, Between, overwrite, resized, tested, worked, name_ok}
+use Rattle.card.specs.Calls.{Op, length_of, read, create, write, set_length, sync, delete, Could, Partly, Between, overwrite, resized, tested, worked}
 use Rattle.card.proofs.Contents.{length_overwrite, overwrite_before, overwrite_inside, overwrite_after, length_resized, resized_front, resized_past}
-use Rattle.card.proofs.Every.{some_none, not_lawful_absent}
+use Rattle.card.proofs.Every.{some_none}
 use Rattle.card.proofs.Tested.{lawful_write}
 
 pub overwrite_partly : (old : Bytes) (p : ℕ) (bytes : Bytes) → p ≤ length old → Partly old p bytes (overwrite old p bytes)

@@ -1,6 +1,6 @@
 -- The calls of a card: their tests, their work on the file, what may remain of the file after it,
 -- and what each answer says of the card.
-use Rattle.std.specs.Prelude.{◌≡◌, ℕ, ◌+◌, ◌-◌, ◌<◌, ◌≤◌, min, max, Bool, true, false, cond, ◌⊎◌, List, [], ◌++◌, length, take, drop, replicate, Some, None, Ok, Err, Option, Result, ◌≢◌, nat_le, slice_index}
+use Rattle.std.specs.Prelude.{◌≡◌, ℕ, ◌+◌, ◌-◌, ◌<◌, ◌≤◌, min, max, Bool, true, false, cond, ◌⊎◌, [], ◌++◌, length, take, drop, replicate, Some, None, Ok, Err, Option, Result, ◌≢◌, nat_le, slice_index}
 use Rattle.card.specs.declared.fault.Cause.{Cause}
 use Rattle.card.specs.declared.fault.Cause.TheVariants.{Power, Device, Absent, Present, Range}
 use Rattle.card.specs.declared.fault.CardCall.{CardCall}

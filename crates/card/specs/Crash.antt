@@ -1,6 +1,6 @@
 -- Reasoning about power failure: what is true of a file whatever remains of it, and the law that
 -- lets a proof carry it over any call, however the call is answered.
-use Rattle.std.specs.Prelude.{◌≡◌, ◌⊎◌, List, [], ◌∷◌, Some, None, Option, ◌≢◌}
+use Rattle.std.specs.Prelude.{◌≡◌, ◌⊎◌, List, [], ◌∷◌, None, Option, ◌≢◌}
 use Rattle.card.specs.declared.fault.Cause.{Cause}
 use Rattle.card.specs.Meaning.{Meaning, May, Bytes, Name}
 use Rattle.card.specs.Calls.{Op, Could, Called, tested}

@@ -1,8 +1,6 @@
 -- Small cases of what a card's calls do, for readers of the definitions.
-use Rattle.std.specs.Prelude.{◌≡◌, ℕ, [], ◌∷◌, replicate, Some, None, Option}
-use Rattle.card.specs.declared.fault.Cause.{Cause}
+use Rattle.std.specs.Prelude.{◌≡◌, [], ◌∷◌, replicate, Some, None}
 use Rattle.card.specs.declared.fault.Cause.TheVariants.{Absent, Present, Range}
-use Rattle.card.specs.Meaning.{Bytes}
 use Rattle.card.specs.Calls.{overwrite, resized, part, tested, read, create, write, set_length, length_of, Partly, Between}
 use Rattle.card.specs.Numbers.{number_at, number_bytes}
 

@@ -1,5 +1,5 @@
 -- A call's work on the halves of a delayed card, put together with the loss of power.
-use Rattle.std.proofs.Common.{◌≡◌, true, false, Some, None, Option, Result, sym, refl, ap, ◌∙◌, subst}
+use Rattle.std.proofs.Common.{◌≡◌, true, false, Some, None, Option, Result, sym, refl, ap, subst}
 use Rattle.card.specs.declared.fault.Cause.{Cause}
 use Rattle.card.specs.Meaning.{Bytes, Name}
 use Rattle.card.specs.Calls.{Op}

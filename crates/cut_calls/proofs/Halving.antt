@@ -1,5 +1,5 @@
 -- The halves of a delayed card's image as parts of the two lent slices.
-use Rattle.std.proofs.Common.{◌≡◌, ℕ, ◌+◌, ◌-◌, ◌≤◌, min, ◌++◌, length, take, drop, Option, Result, sym, refl, ap, ◌∙◌, subst, ap₂, arith, length-append, length-drop, length-take}
+use Rattle.std.proofs.Common.{◌≡◌, ℕ, ◌-◌, min, ◌++◌, length, take, drop, Option, Result, sym, refl, ap, ◌∙◌, subst, arith, length-append, length-drop, length-take}
 use borrow.Rule.Slice.PartMut.{post_of}
 use Rattle.std.proofs.lemmas.List.{take_at}
 use Rattle.card.specs.declared.fault.Cause.{Cause}

@@ -1,5 +1,5 @@
 -- A delayed card keeps the meaning of a card, whatever it was told to lose.
-use Rattle.std.proofs.Common.{◌≡◌, ℕ, Bool, true, false, not, ◌⊎◌, is_some, IfOk, Some, None, Ok, Err, Option, Result, sym, refl, ap, ◌∙◌, subst, ap₂, inl, inr, ⊎_elim, arith}
+use Rattle.std.proofs.Common.{◌≡◌, ℕ, Bool, true, false, not, ◌⊎◌, is_some, IfOk, Some, None, Ok, Err, Option, Result, sym, refl, ap, ◌∙◌, subst, ap₂, inl, inr, arith}
 use Rattle.std.proofs.lemmas.Bool.{both_ways}
 use Rattle.card.specs.declared.fault.Cause.{Cause}
 use Rattle.card.specs.declared.fault.Cause.TheVariants.{Power, Device, Absent, Present, Range}
@@ -13,7 +13,7 @@ use Rattle.halves.specs.declared.loss.Kept.{Kept}
 use Rattle.halves.specs.declared.loss.Kept.TheVariants.{Synced, Current, Mixed}
 use Rattle.image.specs.Layout.{held}
 use Rattle.image.specs.Stored.{answer_of, refusal, crowded, ReadInto}
-use Rattle.halves.specs.Halves.{mixed, backed, kept_content, kept_of, Paired, PairLeft, PairDone, KeptAs}
+use Rattle.halves.specs.Halves.{mixed, backed, kept_content, kept_of, PairLeft, PairDone, KeptAs}
 use Rattle.image.specs.Blamed.{blamed, FromOrigin}
 use Rattle.image.proofs.Answers.{no_refusal, test_refusal, answer_not_power, blamed_cause, blamed_from}
 use Rattle.halves.proofs.Keeping.{held_backed}

@@ -1,5 +1,5 @@
 -- What may remain on a delayed card after a call is within what any card may let remain.
-use Rattle.std.proofs.Common.{◌≡◌, ℕ, ◌+◌, ◌-◌, ◌%◌, ◌<◌, ◌≤◌, min, max, Bool, true, false, cond, eqb, ◌⊎◌, [], length, get_or, Some, None, Option, sym, refl, ap, ◌∙◌, subst, ap₂, inl, inr, ⊎_elim, arith}
+use Rattle.std.proofs.Common.{◌≡◌, ℕ, ◌+◌, ◌-◌, ◌%◌, ◌<◌, ◌≤◌, Bool, true, false, cond, eqb, ◌⊎◌, length, get_or, Some, None, Option, sym, refl, ap, ◌∙◌, subst, ap₂, inl, inr, ⊎_elim, arith}
 use native.Mathlib.Decide.{dec_lt}
 use Rattle.std.proofs.lemmas.List.{get_or_past}
 use Rattle.std.proofs.lemmas.Bool.{cases_Bool}
@@ -10,7 +10,7 @@ use Rattle.card.proofs.Every.{some_none, not_lawful_absent}
 use Rattle.card.proofs.Tested.{lawful_write}
 use Rattle.card.proofs.Whole.{overwrite_partly, resized_between}
 use Rattle.image.specs.Layout.{held}
-use Rattle.halves.specs.Halves.{mixed, backed, backing, PairDone}
+use Rattle.halves.specs.Halves.{mixed, backed, PairDone}
 use Rattle.halves.proofs.Mixing.{length_mixed, getD_mixed, mixed_same}
 use Rattle.delayed_card.specs.Delayed.{MayRemain, bytes_or_none}
 

@@ -4,10 +4,10 @@ use Rattle.card.specs.declared.fault.Cause.{Cause}
 use Rattle.card.specs.declared.fault.Cause.TheVariants.{Power, Device, Absent, Present, Range}
 use Rattle.card.specs.declared.fault.CardFault.{CardFault}
 use Rattle.card.specs.Meaning.{May, Same, Bytes, Name}
-use Rattle.card.specs.Calls.{Op, Called, Worked, Answered, FaultOf, call_of, cause_of, tested, worked}
+use Rattle.card.specs.Calls.{Op, Called, Worked, Answered, FaultOf, call_of, cause_of, tested}
 use Rattle.card.proofs.Whole.{worked_could}
 use Rattle.image.specs.Layout.{held}
-use Rattle.image.specs.Stored.{Done, Left, Stored, refusal, answer_of, crowded}
+use Rattle.image.specs.Stored.{Done, Left, Stored, answer_of, crowded}
 use Rattle.image.specs.Blamed.{blamed}
 use Rattle.image.proofs.Answers.{no_refusal, test_refusal, answer_not_power, blamed_cause, blamed_from}
 use Rattle.direct_card.specs.Direct.{direct, Direct}

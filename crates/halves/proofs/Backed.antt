@@ -1,7 +1,7 @@
 -- What the synced half has of each file, as calls change the halves.
-use Rattle.std.proofs.Common.{◌≡◌, ℕ, zero, suc, ◌<◌, ◌≤◌, Bool, true, false, cond, ◌⊎◌, [], Some, None, Option, sym, refl, ap, ◌∙◌, subst, inl, inr, ⊎_elim, arith}
+use Rattle.std.proofs.Common.{◌≡◌, ℕ, zero, suc, ◌<◌, Bool, true, false, cond, Some, None, Option, sym, refl, ap, ◌∙◌, subst}
 use native.Mathlib.Decide.{ℕ_discrete}
-use Rattle.std.proofs.lemmas.Bool.{cases_Bool, both_ways, false≢true}
+use Rattle.std.proofs.lemmas.Bool.{both_ways}
 use Rattle.card.specs.Meaning.{Bytes, Name}
 use Rattle.card.specs.Calls.{Op, create, sync, delete}
 use Rattle.card.proofs.Every.{some_none}
@@ -9,7 +9,7 @@ use Rattle.image.specs.Layout.{named, content, slot, held, first_of, or_else, Fi
 use Rattle.image.specs.Stored.{Done, moves}
 use Rattle.halves.specs.Halves.{backed, backing, PairDone, Settled}
 use Rattle.image.proofs.Named.{not_named}
-use Rattle.image.proofs.First.{first_same, first_at, first_none}
+use Rattle.image.proofs.First.{first_same, first_at}
 use Rattle.image.proofs.Files.{held_at, held_none, done_looked}
 
 -- whether a slot of the name is found does not hang on what belongs to it

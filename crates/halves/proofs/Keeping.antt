@@ -1,11 +1,11 @@
 -- Slots given what is kept of their files, one after the other, and what both halves then hold.
-use Rattle.std.proofs.Common.{◌≡◌, ℕ, zero, suc, ◌+◌, ◌*◌, ◌/◌, ◌<◌, ◌≤◌, Bool, true, false, cond, ◌⊎◌, length, take, Some, None, Option, sym, refl, ap, ◌∙◌, subst, ap₂, inl, inr, ⊎_elim, arith, below_more}
+use Rattle.std.proofs.Common.{◌≡◌, ℕ, zero, suc, ◌+◌, ◌*◌, ◌/◌, ◌<◌, Bool, true, false, cond, ◌⊎◌, length, take, Some, None, Option, sym, refl, ap, ◌∙◌, ap₂, inl, inr, ⊎_elim, arith, below_more}
 use Rattle.std.proofs.lemmas.Bool.{cases_Bool}
 use Rattle.card.specs.Meaning.{Bytes, Name}
 use Rattle.card.specs.Calls.{overwrite}
 use Rattle.card.proofs.Every.{some_none}
 use Rattle.halves.specs.declared.loss.Kept.{Kept}
-use Rattle.image.specs.Layout.{named, free, content, slot, slot_size, held, first_of, or_else, free_slots}
+use Rattle.image.specs.Layout.{named, content, slot, slot_size, held, first_of, or_else, free_slots}
 use Rattle.halves.specs.Halves.{backed, kept_content, kept_of, KeptAs, KeptBelow}
 use Rattle.image.proofs.Named.{named_front, free_front, named_parts}
 use Rattle.image.proofs.First.{first_same, first_none, free_same}

@@ -1,15 +1,14 @@
 -- Two contents mixed: how long the mix is, its bytes, and a slot that was given it.
-use Rattle.std.proofs.Common.{◌≡◌, ℕ, ◌+◌, ◌-◌, ◌%◌, ◌<◌, ◌≤◌, max, Bool, true, false, cond, eqb, ltb, ◌⊎◌, map, length, get_or, take, drop, sym, refl, ap, ◌∙◌, ap₂, inl, inr, arith}
+use Rattle.std.proofs.Common.{◌≡◌, ℕ, ◌+◌, ◌%◌, ◌<◌, ◌≤◌, max, Bool, true, false, cond, eqb, ltb, length, get_or, take, drop, sym, refl, ap, ◌∙◌, ap₂, arith}
 use native.Mathlib.Decide.{dec_lt}
-use Rattle.std.specs.List.{range_with_len}
 use Rattle.std.proofs.lemmas.List.FromFn.{length-map-range_with_len, get_or-map-range_with_len}
 use Rattle.std.proofs.lemmas.List.{ext_get_or, get_or_past, get_or-drop, drop-drop}
-use Rattle.std.proofs.lemmas.Bool.{cases_Bool, lt-ltb, le-ltb}
+use Rattle.std.proofs.lemmas.Bool.{lt-ltb, le-ltb}
 use Rattle.card.specs.Meaning.{Bytes}
 use Rattle.card.specs.Numbers.{number_at}
 use Rattle.image.specs.Layout.{content}
-use Rattle.halves.specs.Halves.{mixed, mixed_byte, MixedBelow}
-use Rattle.image.proofs.Bytes.{content_from, content_at, content_within, length_content}
+use Rattle.halves.specs.Halves.{mixed, MixedBelow}
+use Rattle.image.proofs.Bytes.{content_from, content_at, content_within}
 
 pub length_mixed : (a s : Bytes) → length (mixed a s) ≡ max (length a) (length s)
 unfolding mixed

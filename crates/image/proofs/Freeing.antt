@@ -1,15 +1,13 @@
 -- Slots freed one after the other, and what an image then holds.
-use Rattle.std.proofs.Common.{◌≡◌, ℕ, suc, ◌+◌, ◌*◌, ◌/◌, ◌<◌, ◌≤◌, Bool, true, false, cond, leb, ◌⊎◌, length, Some, None, sym, refl, ap, ◌∙◌, subst, inl, inr, ⊎_elim, arith, below_more}
-use native.Mathlib.Decide.{ℕ_discrete}
+use Rattle.std.proofs.Common.{◌≡◌, ℕ, suc, ◌+◌, ◌*◌, ◌/◌, ◌<◌, ◌≤◌, Bool, true, false, cond, length, Some, None, sym, refl, ap, ◌∙◌, ⊎_elim, arith, below_more}
 use Rattle.std.proofs.lemmas.Bool.{cases_Bool, both_ways, le-leb, lt-leb}
 use Rattle.card.specs.Meaning.{Bytes, Name}
-use Rattle.card.specs.Calls.{overwrite, delete, worked}
+use Rattle.card.specs.Calls.{overwrite, delete}
 use Rattle.image.specs.Layout.{named, free, content, slot, slot_size, held, first_of, free_slots, FirstSlot}
 use Rattle.image.specs.Stored.{Freed, Done, Empty}
 use Rattle.image.proofs.Named.{free_unnamed, free_head, named_parts, not_named}
 use Rattle.image.proofs.First.{first_same, first_none, free_gain, free_none, free_all}
 use Rattle.image.proofs.Slices.{slot_put, slot_other, put_length, length_slot}
-use Rattle.image.proofs.Files.{held_at}
 
 module _ (is : Bytes → Bool) (image : Bytes) where
   pub freed_none : Freed is image 0 image

@@ -6,7 +6,7 @@ use Rattle.std.proofs.lemmas.List.{get_or-take, get_or-drop, ext_get_or}
 use Rattle.card.specs.Meaning.{Bytes}
 use Rattle.card.specs.Calls.{overwrite}
 use Rattle.card.proofs.Contents.{overwrite_before, overwrite_inside, overwrite_after}
-use Rattle.image.specs.Layout.{slot, slot_size, slot_count}
+use Rattle.image.specs.Layout.{slot, slot_size}
 use Rattle.image.proofs.Bytes.{put_overwrite, overwrite_length}
 
 -- the rows of a table lie one after the other

@@ -1,7 +1,7 @@
 -- What a call does to the files of an image, and exactly when it is refused.
 use Rattle.std.specs.Prelude.{◌≡◌, ℕ, suc, ◌+◌, ◌<◌, ◌≤◌, Bool, true, false, cond, length, Some, None, Ok, Err, Option, Result, ◌==◌, ◌≢◌, nat_le, nat_lt}
 use Rattle.card.specs.declared.fault.Cause.{Cause}
-use Rattle.card.specs.declared.fault.Cause.TheVariants.{Power, Device, Absent, Present, Range}
+use Rattle.card.specs.declared.fault.Cause.TheVariants.{Device, Absent}
 use Rattle.card.specs.Meaning.{Bytes, Name}
 use Rattle.card.specs.Calls.{Op, length_of, read, create, write, set_length, sync, delete, tested, worked, after_name, name_ok, part_of}
 use Rattle.image.specs.Layout.{held, slot, slot_count, room, first_of, free_slots, FirstSlot, named, free, slot_size, head_size}

@@ -1,9 +1,8 @@
 -- What a file's length and the read of its front tell of it.
-use Rattle.std.proofs.Common.{◌≡◌, ℕ, ◌+◌, ◌-◌, ◌<◌, ◌≤◌, min, List, [], ◌∷◌, ◌++◌, length, take, drop, Some, None, Ok, Err, Option, Result, sym, refl, ap, ◌∙◌, subst, ap₂, arith, length-take}
+use Rattle.std.proofs.Common.{◌≡◌, ℕ, ◌+◌, ◌-◌, min, ◌++◌, length, take, drop, Some, None, Option, sym, refl, ap, ◌∙◌, ap₂, arith, length-take}
 use Rattle.std.proofs.lemmas.List.{ext_get_or, get_or-take, take_at}
-use Rattle.card.specs.Meaning.{Meaning, Bytes, Name}
-use Rattle.card.specs.Calls.{length_told, part_of, overwrite}
-use Rattle.journal.specs.OnCard.{front_act, judge_acts}
+use Rattle.card.specs.Meaning.{Bytes}
+use Rattle.card.specs.Calls.{length_told, overwrite}
 
 pub no_file : (f : Option Bytes) → None ≡ length_told f → f ≡ None
 no_file None e = refl

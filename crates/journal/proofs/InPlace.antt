@@ -1,12 +1,12 @@
 -- The parts of a lawful journal stand in its bytes where a sound verdict says.
-use Rattle.std.proofs.Common.{◌≡◌, ℕ, ◌+◌, ◌*◌, ◌<◌, ◌≤◌, Bool, true, false, ◌++◌, length, take, drop, Some, None, Option, sym, refl, ap, ◌∙◌, subst, ap₂, arith, length-append}
+use Rattle.std.proofs.Common.{◌≡◌, ℕ, ◌+◌, ◌<◌, true, ◌++◌, length, take, drop, Some, None, Option, sym, refl, ap, ◌∙◌, ap₂, arith}
 use Rattle.std.proofs.lemmas.List.{take_at, drop-drop}
 use Rattle.std.proofs.lemmas.Bool.{and_from, lt-ltb, le-leb}
 use Rattle.card.specs.Meaning.{Bytes, Name}
 use Rattle.card.specs.Calls.{part}
 use Rattle.card.specs.Numbers.{number_bytes}
-use Rattle.journal.specs.Format.{Journal, LawfulJournal, full, record_of, super_bytes, magic, total}
-use Rattle.journal.specs.Judged.{Parts, name_span, record_place, page_of, page_bytes}
+use Rattle.journal.specs.Format.{Journal, record_of, super_bytes, magic, total}
+use Rattle.journal.specs.Judged.{name_span, record_place, page_of, page_bytes}
 use Rattle.journal.specs.Read.{Of, has_record, within}
 use Rattle.journal.specs.declared.verdict.Sound.{Sound as SoundParts}
 use Rattle.journal.specs.declared.verdict.Span.{Span}

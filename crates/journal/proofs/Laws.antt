@@ -1,15 +1,14 @@
 -- The laws of journals' bytes.
-use Rattle.std.proofs.Common.{◌≡◌, ℕ, zero, suc, ◌<◌, true, false, not, ◌||◌, eqb, ltb, ◌⊎◌, length, take, Option, sym, refl, ap, ◌∙◌, subst, inl, inr, ⊎_elim, arith}
+use Rattle.std.proofs.Common.{◌≡◌, ℕ, zero, suc, ◌<◌, true, not, ◌||◌, eqb, ltb, ◌⊎◌, length, take, sym, refl, ap, ◌∙◌, subst, inl, inr, arith}
 use Rattle.std.specs.Str.{bytes_eq}
 use Rattle.std.proofs.lemmas.Bool.{both_ways, or_right, eq-eqb, cases_order}
-use Rattle.card.specs.Meaning.{Bytes, Name}
-use Rattle.journal.specs.Format.{Journal, LawfulJournal, encode, full, magic}
-use Rattle.journal.specs.Judged.{Judged, WrongAt, Parts, name_span, spent, count_of, record_right}
+use Rattle.card.specs.Meaning.{Bytes}
+use Rattle.journal.specs.Format.{Journal, LawfulJournal, full, magic}
+use Rattle.journal.specs.Judged.{Judged, WrongAt, Parts, name_span, spent, count_of}
 use Rattle.journal.specs.Laws.{Quiet, JournalLaws}
 use Rattle.journal.specs.declared.verdict.Verdict.{Verdict}
 use Rattle.journal.specs.declared.verdict.Verdict.TheVariants.{Spent, Damaged, Sound}
 use Rattle.journal.specs.declared.verdict.Sound.{Sound as SoundParts}
-use Rattle.journal.specs.declared.verdict.Span.{Span}
 use Rattle.journal.proofs.Encoded.{spent_full}
 use Rattle.journal.proofs.Same.{full_same}
 use Rattle.journal.proofs.Torn.{torn_count, unfinished, counted}

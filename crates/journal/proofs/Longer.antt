@@ -1,14 +1,14 @@
 -- A file longer than any journal: it is spent by its header, or damaged.
-use Rattle.std.proofs.Common.{◌≡◌, ℕ, ◌+◌, ◌*◌, ◌<◌, ◌≤◌, min, Bool, true, false, not, ◌&&◌, ◌||◌, eqb, ltb, ◌⊎◌, length, take, sym, refl, ap, ◌∙◌, subst, ap₂, inl, inr, ⊎_elim, arith, length-take}
+use Rattle.std.proofs.Common.{◌≡◌, ◌<◌, true, false, not, ◌||◌, eqb, ltb, length, take, sym, ◌∙◌, ⊎_elim, arith, length-take}
 use Rattle.std.specs.Str.{bytes_eq}
 use Rattle.std.proofs.lemmas.List.{take-take}
-use Rattle.std.proofs.lemmas.Bool.{and_parts, both_ways, cases_Bool, le-ltb}
+use Rattle.std.proofs.lemmas.Bool.{and_parts, cases_Bool, le-ltb}
 use Rattle.card.specs.Meaning.{Bytes}
 use Rattle.journal.specs.Format.{magic}
-use Rattle.journal.specs.Judged.{Judged, spent, readable, header_right, length_right, record_place, count_of}
-use Rattle.journal.specs.declared.verdict.Verdict.TheVariants.{Spent, Damaged}
+use Rattle.journal.specs.Judged.{Judged, spent, readable, header_right, length_right, count_of}
+use Rattle.journal.specs.declared.verdict.Verdict.TheVariants.{Damaged}
 use Rattle.journal.proofs.Numbers.{number_take}
-use Rattle.journal.proofs.Taken.{HeaderIs, header_is}
+use Rattle.journal.proofs.Taken.{header_is}
 use Rattle.journal.proofs.Verdicts.{length_is, unreadable}
 
 module _ (b : Bytes) (long : 17724 < length b) where

@@ -1,9 +1,9 @@
 -- Calls of a card one after the other, passed up by their faults.
-use Rattle.std.proofs.Common.{◌≡◌, ℕ, List, [], ◌∷◌, Ok, Err, Option, Result, sym, refl, ap, ◌∙◌, subst}
+use Rattle.std.proofs.Common.{◌≡◌, ℕ, List, [], ◌∷◌, Ok, Err, Option, Result, sym, refl, subst}
 use Rattle.card.specs.declared.fault.CardFault.{CardFault}
 use Rattle.card.specs.Meaning.{Meaning, Bytes, Name}
 use Rattle.card.specs.Calls.{Op, read, write, Answered}
-use Rattle.card.specs.Runs.{Act, End, through, stopped, Runs, end, next, stop}
+use Rattle.card.specs.Runs.{Act, end, next, stop}
 use Rattle.journal.specs.OnCard.{Acted, judge_acts}
 use Rattle.journal.specs.declared.fault.JournalFault.{JournalFault}
 

@@ -1,8 +1,7 @@
 -- The bytes tell the journal, and no torn count makes another one of them.
-use Rattle.std.proofs.Common.{◌≡◌, ℕ, zero, suc, ◌+◌, ◌-◌, ◌*◌, ◌^◌, ◌<◌, ◌≤◌, ◌⊎◌, List, [], ◌∷◌, ◌++◌, length, get_or, take, drop, replicate, Some, None, Option, sym, refl, ap, ◌∙◌, subst, inl, inr, append_assoc, arith}
+use Rattle.std.proofs.Common.{◌≡◌, ℕ, ◌^◌, ◌<◌, ◌≤◌, List, [], ◌∷◌, ◌++◌, length, take, drop, Some, None, Option, sym, refl, ap, ◌∙◌, subst, append_assoc, arith}
 use Rattle.std.proofs.lemmas.List.{take_at, drop_at}
 use Rattle.card.specs.Meaning.{Bytes, Name}
-use Rattle.card.specs.Calls.{overwrite, Partly}
 use Rattle.card.specs.Numbers.{number_at, number_bytes}
 use Rattle.card.proofs.Numbers.{number_of_bytes}
 use Rattle.journal.specs.Format.{PageRecord, Journal, LawfulJournal, Ascending, header, record_bytes, records_bytes, super_bytes, encode, full, magic, checksum, total}

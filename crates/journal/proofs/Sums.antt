@@ -1,5 +1,5 @@
 -- The sum of bytes: by one more byte, and that it is small.
-use Rattle.std.proofs.Common.{◌≡◌, ℕ, suc, ◌+◌, ◌*◌, ◌<◌, ◌≤◌, [], ◌∷◌, ◌++◌, length, get_or, sym, refl, ap, ◌∙◌, arith}
+use Rattle.std.proofs.Common.{◌≡◌, ℕ, suc, ◌+◌, ◌*◌, ◌≤◌, [], ◌∷◌, ◌++◌, length, arith}
 use Rattle.card.specs.Meaning.{Bytes}
 use Rattle.journal.specs.Format.{total, Octets}
 

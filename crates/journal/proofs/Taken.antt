@@ -1,5 +1,5 @@
 -- Bytes that pass every test of the verdict are those of a lawful journal.
-use Rattle.std.proofs.Common.{◌≡◌, ℕ, zero, suc, ◌+◌, ◌-◌, ◌*◌, ◌^◌, ◌<◌, ◌≤◌, Bool, true, false, not, ◌&&◌, ◌||◌, eqb, ltb, leb, ◌⊎◌, List, [], ◌∷◌, ◌++◌, length, get_or, take, drop, replicate, Some, None, Option, sym, refl, ap, ◌∙◌, subst, ap₂, inl, inr, arith}
+use Rattle.std.proofs.Common.{◌≡◌, ℕ, zero, suc, ◌+◌, ◌-◌, ◌*◌, ◌^◌, ◌<◌, ◌≤◌, true, false, ◌&&◌, eqb, List, [], ◌∷◌, ◌++◌, length, take, drop, replicate, Some, Option, sym, refl, ap, ◌∙◌, ap₂, arith}
 use Rattle.std.specs.Str.{bytes_eq}
 use Rattle.std.proofs.lemmas.List.{take-append-drop, drop-drop}
 use Rattle.std.proofs.lemmas.Slice.Eq.{bytes_eq-Decides}
@@ -8,10 +8,10 @@ use Rattle.card.specs.Meaning.{Bytes, Name}
 use Rattle.card.specs.Calls.{part}
 use Rattle.card.specs.Numbers.{number_at, number_bytes}
 use Rattle.journal.specs.Format.{PageRecord, Journal, LawfulJournal, LawfulName, Octets, Ascending, Starts, header, record_bytes, records_bytes, super_bytes, encode, full, magic, checksum, total}
-use Rattle.journal.specs.Judged.{spent, header_right, length_right, record_right, record_place, page_of, page_bytes, count_of, nonce_of, size_of}
+use Rattle.journal.specs.Judged.{spent, header_right, record_right, record_place, page_of, page_bytes, count_of, nonce_of, size_of}
 use Rattle.journal.specs.Fronts.{super_right}
 use Rattle.journal.proofs.Numbers.{part_number}
-use Rattle.journal.proofs.Pieces.{part_split, part_cut, part_end, length_part, octets_part}
+use Rattle.journal.proofs.Pieces.{part_split, part_cut, part_end, length_part}
 
 -- what the tests of a header say
 pub record HeaderIs (b : Bytes) : Type 0 where

@@ -1,20 +1,18 @@
 -- Each verdict is the right one, from what the tests answered.
-use Rattle.std.proofs.Common.{◌≡◌, ℕ, zero, suc, ◌+◌, ◌-◌, ◌*◌, ◌<◌, ◌≤◌, Bool, true, false, ◌&&◌, ◌||◌, eqb, leb, ◌⊎◌, List, [], length, take, drop, Some, None, Option, sym, refl, ap, ◌∙◌, subst, ap₂, inl, inr, ⊎_elim, arith, length-drop}
+use Rattle.std.proofs.Common.{◌≡◌, ℕ, zero, suc, ◌+◌, ◌-◌, ◌*◌, ◌<◌, ◌≤◌, true, false, ◌&&◌, ◌||◌, eqb, leb, ◌⊎◌, length, drop, Some, None, Option, sym, refl, ap, ◌∙◌, subst, ap₂, inl, inr, ⊎_elim, arith, length-drop}
 use Rattle.std.proofs.lemmas.List.{drop_all}
-use Rattle.std.proofs.lemmas.Bool.{and_parts, and_from, and_left, and_right, or_parts, or_cases, both_ways, ltb-false, eqb-true, leb-true}
+use Rattle.std.proofs.lemmas.Bool.{and_parts, and_from, or_parts, or_cases, both_ways, ltb-false, eqb-true, leb-true}
 use Rattle.card.specs.Meaning.{Bytes, Name}
 use Rattle.card.specs.Calls.{part}
-use Rattle.journal.specs.Format.{Journal, LawfulJournal, LawfulName, Octets, encode, full, super_bytes}
-use Rattle.journal.specs.Judged.{Judged, NoJournal, WrongAt, Parts, name_span, readable, spent, header_right, length_right, record_right, record_place, count_of, nonce_of, size_of}
+use Rattle.journal.specs.Format.{Journal, LawfulJournal, LawfulName, Octets, full, super_bytes}
+use Rattle.journal.specs.Judged.{Judged, NoJournal, WrongAt, name_span, readable, spent, header_right, length_right, record_right, record_place, count_of}
 use Rattle.journal.specs.Fronts.{FirstWrong, Reads, super_right}
 use Rattle.journal.specs.declared.header.Header.{Header}
-use Rattle.journal.specs.declared.verdict.Verdict.{Verdict}
-use Rattle.journal.specs.declared.verdict.Verdict.TheVariants.{Spent, Damaged, Sound}
-use Rattle.journal.specs.declared.verdict.Sound.{Sound as SoundParts}
+use Rattle.journal.specs.declared.verdict.Verdict.TheVariants.{Damaged, Sound}
 use Rattle.journal.specs.declared.verdict.Span.{Span}
 use Rattle.journal.proofs.Pieces.{length_part, octets_part, octets_drop}
-use Rattle.journal.proofs.Taken.{HeaderIs, header_is, journal_of, taken_lawful, taken_full, super_taken, length_read}
-use Rattle.journal.proofs.Encoded.{header_full, length_full, record_full, count_full, end_full, super_full, length_encode}
+use Rattle.journal.proofs.Taken.{header_is, journal_of, taken_lawful, taken_full, super_taken, length_read}
+use Rattle.journal.proofs.Encoded.{header_full, length_full, record_full, count_full, end_full, super_full}
 
 pub unspent_long : (b : Bytes) → spent b ≡ false → 512 ≤ length b
 unfolding spent

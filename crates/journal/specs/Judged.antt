@@ -1,10 +1,10 @@
 -- What the bytes of a journal are found to be: spent, damaged at a record, or sound with its parts.
-use Rattle.std.specs.Prelude.{◌≡◌, ℕ, zero, suc, ◌+◌, ◌-◌, ◌*◌, ◌<◌, ◌≤◌, Bool, true, false, not, ◌&&◌, ◌||◌, length, take, replicate, Some, None, Option, ◌==◌, ◌≢◌, nat_le, nat_lt}
+use Rattle.std.specs.Prelude.{◌≡◌, ℕ, zero, suc, ◌+◌, ◌*◌, ◌<◌, Bool, true, false, not, ◌&&◌, ◌||◌, length, take, replicate, Some, None, Option, ◌==◌, ◌≢◌, nat_le, nat_lt}
 use Rattle.std.specs.Str.{bytes_eq}
 use Rattle.card.specs.Meaning.{Bytes, Name}
 use Rattle.card.specs.Calls.{part}
 use Rattle.card.specs.Numbers.{number_at}
-use Rattle.journal.specs.Format.{Journal, LawfulJournal, full, magic, checksum, page_size, sector_size, record_size, page_limit, record_limit, super_extra}
+use Rattle.journal.specs.Format.{Journal, LawfulJournal, full, magic, checksum, page_size, sector_size, record_size, page_limit, record_limit}
 use Rattle.journal.specs.declared.verdict.Verdict.{Verdict}
 use Rattle.journal.specs.declared.verdict.Verdict.TheVariants.{Spent, Damaged, Sound}
 use Rattle.journal.specs.declared.verdict.Sound.{Sound as SoundParts}

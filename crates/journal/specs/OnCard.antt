@@ -1,8 +1,8 @@
 -- A journal on a card: the calls that judge it, and what their answers tell.
-use Rattle.std.specs.Prelude.{◌≡◌, ℕ, ◌≤◌, min, List, [], ◌∷◌, length, take, Some, None, Ok, Err, Option, Result}
+use Rattle.std.specs.Prelude.{◌≡◌, ℕ, min, List, [], ◌∷◌, length, take, Some, None, Ok, Err, Option, Result}
 use Rattle.card.specs.Meaning.{Meaning, Bytes, Name}
-use Rattle.card.specs.Calls.{Op, length_of, read, call_of, overwrite}
-use Rattle.card.specs.Runs.{Act, End, through, stopped, Runs}
+use Rattle.card.specs.Calls.{length_of, read, call_of, overwrite}
+use Rattle.card.specs.Runs.{Act, through, stopped, Runs}
 use Rattle.journal.specs.Judged.{Judged}
 use Rattle.journal.specs.declared.verdict.Verdict.{Verdict}
 use Rattle.journal.specs.declared.fault.JournalFault.{JournalFault}

@@ -1,9 +1,9 @@
 -- What is told of the parts of a sound journal, read in place.
-use Rattle.std.specs.Prelude.{◌≡◌, ℕ, ◌+◌, ◌<◌, ◌≤◌, Bool, cond, ◌&&◌, length, Some, None, Option, nat_le, nat_lt}
+use Rattle.std.specs.Prelude.{◌≡◌, ℕ, ◌+◌, ◌<◌, Bool, cond, ◌&&◌, length, Some, None, Option, nat_le, nat_lt}
 use Rattle.card.specs.Meaning.{Bytes, Name}
 use Rattle.card.specs.Calls.{part}
 use Rattle.journal.specs.Format.{Journal, LawfulJournal, full, record_of}
-use Rattle.journal.specs.Judged.{Parts, record_place, page_of, page_bytes}
+use Rattle.journal.specs.Judged.{Parts, record_place}
 use Rattle.journal.specs.declared.verdict.Sound.{Sound as SoundParts}
 use Rattle.journal.specs.declared.verdict.Span.{Span}
 

@@ -1,5 +1,5 @@
 -- Parts of a journal put into a buffer piece by piece are put there whole.
-use Rattle.std.proofs.Common.{◌≡◌, ℕ, ◌+◌, ◌*◌, ◌≤◌, [], ◌∷◌, ◌++◌, length, take, drop, replicate, Some, sym, refl, ap, ◌∙◌, ap₂, append_assoc, arith, length-append}
+use Rattle.std.proofs.Common.{◌≡◌, ℕ, ◌+◌, ◌≤◌, ◌++◌, length, replicate, Some, refl, ap, ◌∙◌, append_assoc, arith, length-append}
 use Rattle.card.specs.Meaning.{Bytes, Name}
 use Rattle.card.specs.Calls.{overwrite}
 use Rattle.card.specs.Numbers.{number_bytes}

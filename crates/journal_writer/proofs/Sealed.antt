@@ -1,14 +1,14 @@
 -- Records made around pages that lie in a buffer, and the whole journal that they become.
-use Rattle.std.proofs.Common.{◌≡◌, ℕ, zero, suc, ◌+◌, ◌-◌, ◌*◌, ◌<◌, ◌≤◌, List, [], ◌∷◌, ◌++◌, length, get_or, take, drop, sym, refl, ap, ◌∙◌, subst, ap₂, append_assoc, append-nil, arith, length-append, length-take}
+use Rattle.std.proofs.Common.{◌≡◌, ℕ, suc, ◌+◌, ◌-◌, ◌*◌, ◌<◌, ◌≤◌, List, [], ◌∷◌, ◌++◌, length, get_or, take, drop, sym, refl, ap, ◌∙◌, ap₂, append_assoc, append-nil, arith, length-append, length-take}
 use Rattle.std.proofs.lemmas.List.{take-append-drop, drop-drop, drop_at, take_more, take_all}
-use Rattle.card.specs.Meaning.{Bytes, Name}
+use Rattle.card.specs.Meaning.{Bytes}
 use Rattle.card.specs.Calls.{overwrite, part}
 use Rattle.card.specs.Numbers.{number_bytes}
 use Rattle.card.proofs.Contents.{length_overwrite}
 use Rattle.journal.specs.Format.{PageRecord, record_bytes, records_bytes, checksum}
 use Rattle.journal.specs.Judged.{record_place, page_bytes}
 use Rattle.journal_writer.specs.Written.{originals}
-use Rattle.journal.proofs.Pieces.{part_split, length_part, overwrite_append}
+use Rattle.journal.proofs.Pieces.{length_part, overwrite_append}
 use Rattle.journal_writer.proofs.Filled.{record_filled}
 use Rattle.journal.proofs.Encoded.{length_record}
 

@@ -1,10 +1,9 @@
 -- A header, records and a name put one after the other are a lawful journal, put whole.
-use Rattle.std.proofs.Common.{◌≡◌, ℕ, zero, suc, ◌+◌, ◌*◌, ◌^◌, ◌<◌, ◌≤◌, Bool, true, false, ◌&&◌, eqb, leb, List, [], ◌∷◌, ◌++◌, length, get_or, drop, Some, None, Ok, Option, sym, refl, ap, ◌∙◌, subst, ap₂, append_assoc, append-nil, arith, length-append}
+use Rattle.std.proofs.Common.{◌≡◌, ℕ, ◌+◌, ◌*◌, ◌^◌, ◌<◌, ◌≤◌, true, ◌&&◌, eqb, leb, List, [], ◌∷◌, ◌++◌, length, get_or, drop, Some, None, Ok, Option, sym, ap, ◌∙◌, ap₂, append_assoc, append-nil, arith, length-append}
 use Rattle.std.proofs.lemmas.Bool.{and_parts, leb-true, eqb-true}
 use Rattle.std.proofs.lemmas.Bool.Decides.{nat_tests}
 use Rattle.card.specs.Meaning.{Bytes, Name}
-use Rattle.card.specs.Calls.{overwrite, name_ok}
-use Rattle.card.proofs.Contents.{length_overwrite}
+use Rattle.card.specs.Calls.{overwrite}
 use Rattle.journal.specs.Format.{Journal, LawfulJournal, LawfulName, Octets, Starts, encode, header, records_bytes, super_bytes}
 use Rattle.journal.specs.Judged.{record_place}
 use Rattle.journal_writer.specs.Written.{Filled, made_lawful, pages_lawful, given_lawful, size_lawful, ascend, originals, journal_in}

@@ -1,9 +1,9 @@
 -- The pages of a map, counted word by word.
-use Rattle.std.proofs.Common.{◌≡◌, ℕ, zero, suc, ◌+◌, ◌-◌, ◌*◌, ◌/◌, ◌%◌, ◌^◌, ◌<◌, ◌≤◌, eqb, ◌⊎◌, List, get_or, sym, refl, ap, ◌∙◌, ap₂, inl, inr, add-zero, add_assoc, add-suc, mod-lt, mod-eq_of_lt, arith}
+use Rattle.std.proofs.Common.{◌≡◌, ℕ, zero, suc, ◌+◌, ◌*◌, ◌/◌, ◌%◌, ◌^◌, ◌<◌, ◌≤◌, eqb, ◌⊎◌, List, get_or, sym, ap, ◌∙◌, ap₂, inl, inr, add-zero, add_assoc, add-suc, mod-lt, mod-eq_of_lt, arith}
 use lib.Count.{ones, ones_cat}
 use Rattle.std.proofs.lemmas.Nat.{mod-pow-add, pow_pos}
 use Rattle.page_map.specs.Sets.{counted, one_if}
-use Rattle.page_map.specs.Words.{bit, digit, pages_of}
+use Rattle.page_map.specs.Words.{bit, pages_of}
 use Rattle.page_map.proofs.Digits.{bit_two}
 use Rattle.page_map.proofs.Members.{digit_at}
 

@@ -1,8 +1,8 @@
 -- A visit gives each page of the set once and no other, in ascending order.
-use Rattle.std.proofs.Common.{◌≡◌, ℕ, zero, suc, ◌+◌, ◌<◌, ◌≤◌, Bool, true, false, cond, eqb, List, [], ◌∷◌, length, sym, refl, ap, ◌∙◌, subst, ap₂, arith}
+use Rattle.std.proofs.Common.{◌≡◌, ℕ, zero, suc, ◌+◌, ◌<◌, ◌≤◌, Bool, true, false, cond, eqb, List, [], ◌∷◌, length, sym, refl, ap, ◌∙◌, arith}
 use native.Mathlib.Decide.{ℕ_discrete, dec_lt}
 use Rattle.std.proofs.lemmas.Bool.{eq-eqb, ne_eqb}
-use Rattle.page_map.specs.Sets.{PageSet, page_limit, one_if, counted, NoneAbove, NextAbove, Visit, end, next, Ascending, listed, Visited, VisitLaw}
+use Rattle.page_map.specs.Sets.{PageSet, page_limit, one_if, counted, NextAbove, Visit, end, next, Ascending, listed, VisitLaw}
 
 module _ (s : PageSet) where
   ascends : {after : ℕ} {pages : List ℕ} → Visit s after pages → Ascending after pages

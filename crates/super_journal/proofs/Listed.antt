@@ -1,10 +1,10 @@
 -- Names in a list, tested and put one by one.
-use Rattle.std.proofs.Common.{◌≡◌, ℕ, zero, suc, ◌+◌, ◌-◌, ◌*◌, ◌<◌, ◌≤◌, List, [], ◌∷◌, ◌++◌, length, get_or, take, drop, sym, refl, ap, ◌∙◌, subst, ap₂, append_assoc, arith, length-append, length-take, Bor}
+use Rattle.std.proofs.Common.{◌≡◌, ℕ, zero, suc, ◌+◌, ◌<◌, ◌≤◌, List, [], ◌∷◌, ◌++◌, length, get_or, take, sym, refl, ap, ◌∙◌, append_assoc, arith, length-append, Bor}
 use Rattle.std.specs.List.{AllByRecursion as All}
-use Rattle.std.proofs.lemmas.List.{take-append-drop, take_more, take_all}
+use Rattle.std.proofs.lemmas.List.{take_more}
 use Rattle.card.specs.Meaning.{Bytes, Name}
 use Rattle.card.specs.Calls.{overwrite}
-use Rattle.super_journal.specs.Super.{super_journal_bytes, Plain, LawfulNames}
+use Rattle.super_journal.specs.Super.{super_journal_bytes, Plain}
 use Rattle.super_journal.specs.Written.{texts}
 use Rattle.journal.proofs.Pieces.{overwrite_append}
 use Rattle.super_journal.proofs.Names.{super_push}

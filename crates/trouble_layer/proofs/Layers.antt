@@ -1,11 +1,11 @@
 -- A layer that passes a call on keeps the meaning of a card.
-use Rattle.std.proofs.Common.{◌≡◌, ℕ, Bool, true, false, ◌&&◌, ◌⊎◌, List, Some, None, Ok, Err, Option, Result, sym, ap, ◌∙◌, subst, inl, inr, ⊎_elim}
+use Rattle.std.proofs.Common.{◌≡◌, ℕ, Bool, false, ◌&&◌, List, Some, None, Ok, Err, Option, Result, sym, ap, ◌∙◌, subst, inl, inr, ⊎_elim}
 use Rattle.std.proofs.lemmas.Bool.{both_ways, and_from}
 use Rattle.card.specs.declared.fault.Cause.{Cause}
 use Rattle.card.specs.declared.fault.Cause.TheVariants.{Power, Device, Absent, Present, Range}
 use Rattle.card.specs.declared.fault.CardFault.{CardFault}
 use Rattle.card.specs.Meaning.{Meaning, May, Untouched, Same, Switched, Name, Bytes}
-use Rattle.card.specs.Calls.{Op, Called, Could, Worked, Lost, Answered, FaultOf, cause_of}
+use Rattle.card.specs.Calls.{Op, Called, Could, Answered, FaultOf, cause_of}
 use Rattle.card.proofs.Weaker.{could_weaker}
 use Rattle.trouble_layer.specs.Trouble.{layered, listed, Troubled}
 

@@ -1,8 +1,7 @@
-use Rattle.std.proofs.Common.{◌≡◌, min, length, IfOk, sym, ◌∙◌, subst, arith}
+use Rattle.std.proofs.Common.{◌≡◌, min, length, IfOk, subst, arith}
 use Rattle.card.specs.Meaning.{Bytes}
 use Rattle.card.specs.Calls.{length_of, length_told}
 use Rattle.image.specs.Layout.{held}
-use Rattle.image.specs.Stored.{ReadInto}
 use Rattle.cut_calls.proofs.Halving.{front_half, same_fronts, call_halves}
 use Rattle.cut_calls.proofs.trimmed.length.Goals as goal
 

@@ -1,6 +1,6 @@
-use Rattle.std.proofs.Common.{◌≡◌, min, length, sym, ◌∙◌, subst, arith}
+use Rattle.std.proofs.Common.{◌≡◌, min, length, subst, arith}
 use Rattle.card.specs.Meaning.{Bytes}
-use Rattle.card.specs.Calls.{read, length_told}
+use Rattle.card.specs.Calls.{read}
 use Rattle.image.specs.Layout.{held}
 use Rattle.image.specs.Stored.{ReadInto}
 use Rattle.cut_calls.proofs.Halving.{front_half, same_fronts, call_halves}

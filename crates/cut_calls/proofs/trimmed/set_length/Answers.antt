@@ -1,4 +1,3 @@
-use Rattle.std.proofs.Common.{ap, subst}
 use Rattle.card.specs.Calls.{set_length}
 use Rattle.cut_calls.proofs.Halving.{same_fronts, call_halves}
 use Rattle.cut_calls.proofs.trimmed.set_length.Goals as goal

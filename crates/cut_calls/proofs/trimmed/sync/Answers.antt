@@ -1,4 +1,3 @@
-use Rattle.std.proofs.Common.{ap, subst}
 use Rattle.card.specs.Calls.{sync}
 use Rattle.cut_calls.proofs.Halving.{same_fronts, call_halves}
 use Rattle.cut_calls.proofs.trimmed.sync.Goals as goal

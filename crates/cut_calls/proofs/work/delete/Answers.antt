@@ -1,4 +1,4 @@
-use Rattle.std.proofs.Common.{refl, ◌∙◌}
+use Rattle.std.proofs.Common.{◌∙◌}
 use Rattle.std.proofs.lemmas.Bool.{both_ways}
 use Rattle.card.specs.Calls.{delete}
 use Rattle.cut_calls.proofs.Calls.{call_lost, paired_at}

@@ -1,4 +1,3 @@
-use Rattle.std.proofs.Common.{refl}
 use Rattle.halves.proofs.Backed.{pair_created, created_found}
 use Rattle.halves.proofs.both.create.Goals as goal
 

@@ -1,7 +1,7 @@
-use Rattle.std.proofs.Common.{sym, refl}
+use Rattle.std.proofs.Common.{refl}
 use Rattle.std.proofs.lemmas.Result.{err_from_is_err_and}
 use Rattle.card.specs.Calls.{delete}
-use Rattle.image.proofs.Files.{answer_at, answer_absent}
+use Rattle.image.proofs.Files.{answer_absent}
 use Rattle.halves.proofs.Backed.{pair_deleted}
 use Rattle.halves.proofs.both.delete.Goals as goal
 

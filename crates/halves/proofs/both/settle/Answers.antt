@@ -1,9 +1,8 @@
-use Rattle.std.proofs.Common.{◌≡◌, ℕ, ◌+◌, ◌-◌, ◌*◌, ◌/◌, length, sym, refl, ap, ◌∙◌, subst, arith}
+use Rattle.std.proofs.Common.{◌≡◌, ℕ, ◌+◌, ◌-◌, ◌*◌, ◌/◌, length, ap, ◌∙◌}
 use borrow.Rule.Slice.PartMut.{put_mid}
 use Rattle.card.specs.Meaning.{Bytes}
 use Rattle.card.specs.Calls.{overwrite}
 use Rattle.image.specs.Layout.{slot, slot_size}
-use Rattle.halves.specs.Halves.{Settled}
 use Rattle.image.proofs.Slices.{slot_part, slot_write, length_slot, slot_put, slot_other, put_length}
 use Rattle.halves.proofs.both.settle.Goals as goal
 

@@ -1,7 +1,7 @@
-use Rattle.std.proofs.Common.{◌≡◌, ℕ, ◌-◌, [], ◌++◌, length, take, drop, sym, ap, ◌∙◌, arith, length-drop, length-take}
+use Rattle.std.proofs.Common.{◌≡◌, ℕ, ◌-◌, [], ◌++◌, length, take, drop, sym, ap, ◌∙◌, arith, length-drop}
 use borrow.Rule.Slice.PartMut.{put_mid}
 use Rattle.std.proofs.lemmas.Slice.{take-put_mid_below}
-use Rattle.std.proofs.lemmas.List.{take_rest, drop_at, length-take-le, append-nil, drop-drop, drop_all}
+use Rattle.std.proofs.lemmas.List.{take_rest, drop_at, length-take-le, append-nil, drop_all}
 use Rattle.card.specs.Meaning.{Bytes}
 use Rattle.image.specs.Layout.{content}
 use Rattle.halves.specs.declared.loss.Kept.{Kept}

@@ -4,7 +4,7 @@ use Rattle.card.specs.Meaning.{Bytes}
 use Rattle.card.specs.Calls.{overwrite}
 use Rattle.image.specs.Layout.{slot, slot_size, content}
 use Rattle.halves.specs.Halves.{kept_content, KeptBelow}
-use Rattle.image.proofs.Slices.{slot_part, slot_write, length_slot, slot_put, put_length, put_size}
+use Rattle.image.proofs.Slices.{slot_part, slot_write, length_slot, slot_put, put_size}
 use Rattle.halves.proofs.Keeping.{kept_none, kept_more, kept_as, kept_small}
 use Rattle.halves.proofs.loss.keep.Goals as goal
 

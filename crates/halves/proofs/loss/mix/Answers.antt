@@ -1,4 +1,4 @@
-use Rattle.std.proofs.Common.{◌≡◌, ℕ, ◌<◌, max, length, get_or, take, sym, ap, ◌∙◌, subst, ap₂, arith, length-take}
+use Rattle.std.proofs.Common.{◌≡◌, ℕ, ◌<◌, max, length, take, sym, ◌∙◌, subst, ap₂, arith, length-take}
 use Rattle.std.proofs.lemmas.List.{ext_get_or, get_or-take}
 use Rattle.card.specs.Numbers.{number_at}
 use Rattle.image.specs.Layout.{content}

@@ -1,9 +1,8 @@
-use Rattle.std.proofs.Common.{◌≡◌, ℕ, ◌-◌, ◌≤◌, length, get_or, take, set, sym, refl, ap, ◌∙◌, arith}
+use Rattle.std.proofs.Common.{◌≡◌, ◌-◌, ◌≤◌, length, get_or, take, set, sym, refl, ap, ◌∙◌, arith}
 use borrow.Rule.Slice.PartMut.{put_mid}
 use Rattle.std.proofs.lemmas.List.{get_or-set_same, get_or-take, take-set-le, take-take, take_at, length-set, nil_from_length}
 use Rattle.card.specs.Meaning.{Bytes}
 use Rattle.card.specs.Calls.{overwrite}
-use Rattle.image.specs.Layout.{content}
 use Rattle.image.proofs.Bytes.{put_overwrite, overwrite_length, length_content}
 use Rattle.image.proofs.Named.{named_as, not_free}
 use Rattle.image.proofs.slot.claim.Goals as goal

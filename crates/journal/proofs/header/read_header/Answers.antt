@@ -1,8 +1,6 @@
-use Rattle.std.proofs.Common.{◌≡◌, ℕ, ◌≤◌, Bool, length, take, drop, sym, ap, ◌∙◌, arith}
+use Rattle.std.proofs.Common.{◌≡◌, ℕ, take, drop, sym, ◌∙◌, arith}
 use Rattle.std.proofs.lemmas.List.{drop-take}
 use Rattle.card.specs.Meaning.{Bytes}
-use Rattle.card.specs.Calls.{part}
-use Rattle.card.specs.Numbers.{number_at}
 use Rattle.journal.specs.Judged.{header_right}
 use Rattle.journal.specs.Fronts.{front_right, Apart}
 use Rattle.journal.proofs.Numbers.{number_take}

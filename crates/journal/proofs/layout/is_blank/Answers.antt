@@ -1,4 +1,4 @@
-use Rattle.std.proofs.Common.{ℕ, replicate}
+use Rattle.std.proofs.Common.{replicate}
 use Rattle.std.proofs.lemmas.Bool.Decides.{same_from_decides, Decides-eqb}
 use Rattle.std.proofs.lemmas.Slice.Eq.{slice_eq-Decides, bytes_eq-Decides}
 use Rattle.journal.proofs.layout.is_blank.Goals as goal

@@ -1,6 +1,5 @@
-use Rattle.std.proofs.Common.{ℕ, ◌+◌, ◌≤◌, length, get_or, take, sym, refl, ap, ◌∙◌, arith, rules}
+use Rattle.std.proofs.Common.{ℕ, ◌+◌, get_or, take, sym, refl, ap, ◌∙◌, arith}
 use Rattle.std.proofs.lemmas.List.{take_more, take_all}
-use Rattle.card.specs.Meaning.{Bytes}
 use Rattle.journal.specs.Format.{total}
 use Rattle.journal.proofs.Sums.{total_push}
 use Rattle.journal.proofs.named.byte_sum.Goals as goal

@@ -1,10 +1,9 @@
-use Rattle.std.proofs.Common.{◌≡◌, ℕ, ◌+◌, ◌-◌, ◌*◌, length, take, drop, ap, ◌∙◌, ap₂, arith}
+use Rattle.std.proofs.Common.{◌≡◌, ℕ, ◌+◌, ◌-◌, length, take, drop, ap, ◌∙◌, arith}
 use Rattle.std.proofs.lemmas.Bool.Decides.{nat_tests}
 use Rattle.std.proofs.lemmas.List.{take_rest}
 use Rattle.std.specs.Str.{bytes_eq}
 use Rattle.card.specs.Meaning.{Bytes}
 use Rattle.card.specs.Calls.{part}
-use Rattle.card.specs.Numbers.{number_at}
 use Rattle.journal.specs.Format.{magic, total}
 use Rattle.journal.specs.Fronts.{super_right}
 use Rattle.journal.proofs.named.super_holds.Goals as goal

@@ -1,6 +1,5 @@
-use Rattle.std.proofs.Common.{◌≡◌, ℕ, ◌+◌, ◌-◌, ◌*◌, take, drop, ap, ◌∙◌, ap₂, arith}
+use Rattle.std.proofs.Common.{◌≡◌, ℕ, ◌+◌, ◌-◌, take, drop, ap, ◌∙◌, ap₂, arith}
 use Rattle.std.proofs.lemmas.Bool.Decides.{nat_tests}
-use Rattle.card.specs.Meaning.{Bytes}
 use Rattle.card.specs.Numbers.{number_at}
 use Rattle.journal.specs.Format.{checksum}
 use Rattle.journal.specs.Judged.{record_right, nonce_of, page_bytes, record_place}

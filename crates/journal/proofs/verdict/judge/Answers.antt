@@ -1,12 +1,10 @@
-use Rattle.std.proofs.Common.{◌≡◌, ℕ, ◌+◌, ◌*◌, ◌<◌, ◌≤◌, true, false, length, take, drop, sym, ap, ◌∙◌, subst, arith, length-drop}
+use Rattle.std.proofs.Common.{◌≡◌, ℕ, true, false, drop, sym, ap, ◌∙◌, subst, arith}
 use Rattle.std.proofs.lemmas.List.{take_rest}
 use Rattle.std.proofs.lemmas.Bool.{and_from, and_left, and_right}
-use Rattle.card.specs.Meaning.{Bytes}
-use Rattle.journal.specs.Format.{Octets}
-use Rattle.journal.specs.Judged.{Judged, readable, spent, header_right, length_right, record_right, record_place, count_of}
+use Rattle.journal.specs.Judged.{Judged, length_right, record_place, count_of}
 use Rattle.journal.specs.Fronts.{FirstWrong, super_right}
 use Rattle.journal.proofs.Laws.{journal_laws}
-use Rattle.journal.proofs.Verdicts.{unspent_long, length_by, unreadable, wrong_record, ends_within, name_room, bad_name, sound_alone, sound_named}
+use Rattle.journal.proofs.Verdicts.{unspent_long, length_by, unreadable, wrong_record, bad_name, sound_alone, sound_named}
 use Rattle.journal.proofs.verdict.judge.Goals as goal
 
 pub returns-then-is_spent : goal.returns-then-is_spent

@@ -1,9 +1,9 @@
-use Rattle.std.proofs.Common.{◌≡◌, ℕ, ◌+◌, ◌^◌, ◌<◌, ◌≤◌, true, length, Some, None, Ok, Option, sym, ap, ◌∙◌, subst, arith}
-use Rattle.card.specs.Meaning.{Bytes, Name}
+use Rattle.std.proofs.Common.{◌≡◌, ℕ, ◌+◌, ◌≤◌, true, length, Some, None, Ok, Option, sym, ap, ◌∙◌, subst, arith}
+use Rattle.card.specs.Meaning.{Name}
 use Rattle.card.specs.Calls.{overwrite}
 use Rattle.journal.specs.Format.{super_bytes}
 use Rattle.journal.specs.Judged.{record_place}
-use Rattle.journal_writer.specs.Written.{Filled, told, made_lawful, given_lawful}
+use Rattle.journal_writer.specs.Written.{Filled, told, given_lawful}
 use Rattle.journal.proofs.Encoded.{length_super}
 use Rattle.journal_writer.proofs.Whole.{Made, made_is, name_is, filled_alone, filled_named}
 use Rattle.journal_writer.proofs.filler.fill_journal.Goals as goal

@@ -1,4 +1,4 @@
-use Rattle.std.proofs.Common.{◌≡◌, ℕ, ◌+◌, ◌-◌, length, take, drop, sym, ap, ◌∙◌, ap₂, arith}
+use Rattle.std.proofs.Common.{◌≡◌, ℕ, ◌+◌, ◌-◌, take, drop, ap, ◌∙◌, ap₂, arith}
 use Rattle.card.specs.Meaning.{Bytes}
 use Rattle.card.specs.Calls.{overwrite}
 use Rattle.card.specs.Numbers.{number_bytes}

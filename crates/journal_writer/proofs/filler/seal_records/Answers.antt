@@ -1,4 +1,4 @@
-use Rattle.std.proofs.Common.{◌≡◌, ◌≤◌, sym, ap, ◌∙◌, arith}
+use Rattle.std.proofs.Common.{sym, ◌∙◌, arith}
 use Rattle.journal_writer.proofs.Sealed.{sealed_none, sealed_more, sealed_all}
 use Rattle.journal_writer.proofs.filler.seal_records.Goals as goal
 

@@ -1,4 +1,4 @@
-use Rattle.std.proofs.Common.{◌≡◌, length, Option, sym, ap, ◌∙◌, arith, Bor}
+use Rattle.std.proofs.Common.{length, Option, sym, ap, ◌∙◌, arith, Bor}
 use Rattle.card.specs.Meaning.{Bytes}
 use Rattle.journal.specs.Format.{super_bytes}
 use Rattle.journal_writer.specs.Written.{told}

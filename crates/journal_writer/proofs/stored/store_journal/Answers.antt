@@ -1,8 +1,5 @@
-use Rattle.std.proofs.Common.{◌≡◌, ℕ, List, [], ◌∷◌, Ok, Err, Result, ap, ◌∙◌, subst}
+use Rattle.std.proofs.Common.{Err, ap, ◌∙◌}
 use Rattle.std.proofs.lemmas.Result.{err_from_is_err_and}
-use Rattle.card.specs.Meaning.{Meaning, Bytes}
-use Rattle.card.specs.Calls.{Answered, write, sync}
-use Rattle.card.specs.Numbers.{number_bytes}
 use Rattle.journal.specs.declared.fault.JournalFault.{JournalFault}
 use Rattle.journal.proofs.Ran.{acted_end, acted_next, acted_stop, written_as}
 use Rattle.journal_writer.proofs.stored.store_journal.Goals as goal

@@ -1,4 +1,4 @@
-use Rattle.std.proofs.Common.{◌≡◌, ℕ, ◌+◌, ◌≤◌, length, sym, refl, ap, ◌∙◌, arith}
+use Rattle.std.proofs.Common.{ℕ, ◌+◌, length, ap, ◌∙◌}
 use Rattle.card.specs.Meaning.{Bytes}
 use Rattle.card.specs.Calls.{overwrite}
 use Rattle.card.specs.Numbers.{number_bytes}

@@ -1,4 +1,4 @@
-use Rattle.std.proofs.Common.{◌≡◌, ℕ, ◌+◌, ◌≤◌, length, Some, sym, ap, ◌∙◌, arith}
+use Rattle.std.proofs.Common.{ℕ, Some, sym, ap, ◌∙◌, arith}
 use Rattle.card.specs.Calls.{overwrite}
 use Rattle.journal.specs.Format.{super_bytes}
 use Rattle.journal_writer.proofs.writer.put_name.Goals as goal

@@ -1,11 +1,9 @@
-use Rattle.std.proofs.Common.{◌≡◌, ℕ, ◌+◌, ◌≤◌, length, sym, refl, ap, ◌∙◌, arith}
+use Rattle.std.proofs.Common.{◌≡◌, ℕ, ◌+◌, length, sym, ap, ◌∙◌, arith}
 use Rattle.std.proofs.lemmas.Bool.Decides.{nat_tests}
 use Rattle.card.specs.Meaning.{Bytes}
 use Rattle.card.specs.Calls.{overwrite}
 use Rattle.card.specs.Numbers.{number_bytes}
 use Rattle.journal.specs.Format.{record_bytes, checksum}
-use Rattle.journal.specs.Judged.{record_place}
-use Rattle.journal_writer.specs.Written.{record_lawful}
 use Rattle.journal_writer.proofs.Filled.{record_filled}
 use Rattle.journal_writer.proofs.writer.put_record.Goals as goal
 

@@ -1,4 +1,4 @@
-use Rattle.std.proofs.Common.{◌≡◌, ℕ, suc, ◌-◌, sym, ap, ◌∙◌, arith}
+use Rattle.std.proofs.Common.{◌≡◌, suc, ◌-◌, sym, ap, ◌∙◌, arith}
 use Rattle.page_map.specs.Words.{pages_of}
 use Rattle.page_map.proofs.Members.{page_bad, page_read, is_at_least}
 use Rattle.page_map.proofs.PageMap.contains.Goals as goal

@@ -1,4 +1,4 @@
-use Rattle.std.proofs.Common.{◌≡◌, ℕ, ◌^◌, ◌<◌, get_or, refl, arith}
+use Rattle.std.proofs.Common.{◌^◌, ◌<◌, get_or, refl, arith}
 use Rattle.std.proofs.lemmas.Nat.{ones-le}
 use Rattle.page_map.specs.Sets.{counted}
 use Rattle.page_map.proofs.Counts.{word_more}

@@ -1,4 +1,4 @@
-use Rattle.std.proofs.Common.{◌≡◌, ℕ, suc, ◌+◌, ◌*◌, ◌/◌, ◌%◌, sym, subst, add-one, arith}
+use Rattle.std.proofs.Common.{◌≡◌, ℕ, ◌*◌, sym, subst, add-one, arith}
 use Rattle.std.proofs.lemmas.Nat.{div-add-mod'}
 use Rattle.page_map.specs.Sets.{NextAbove}
 use Rattle.page_map.specs.Words.{pages_of}

@@ -1,4 +1,4 @@
-use Rattle.std.proofs.Common.{◌≡◌, ℕ, suc, ◌-◌, sym, ap, ◌∙◌, subst, arith}
+use Rattle.std.proofs.Common.{◌≡◌, ℕ, suc, ◌-◌, sym, ap, ◌∙◌, arith}
 use Rattle.page_map.specs.Sets.{without}
 use Rattle.page_map.specs.Words.{pages_of}
 use Rattle.page_map.proofs.Members.{puts_out, bit_cleared, is_at_least, is_at_most, out_already, page_bad}

@@ -1,7 +1,6 @@
-use Rattle.std.proofs.Common.{◌≡◌, ℕ, ◌-◌, ◌<◌, ◌≤◌, Bool, true, false, ◌&&◌, ltb, leb, length, sym, refl, ◌∙◌, arith}
-use Rattle.std.proofs.lemmas.Bool.Decides.{nat_tests}
+use Rattle.std.proofs.Common.{◌≡◌, ℕ, ◌-◌, ◌<◌, ◌≤◌, ◌&&◌, ltb, leb, sym, refl, ◌∙◌, arith}
 use Rattle.std.proofs.lemmas.Bool.{and_from, and_parts, both_ways, lt-ltb, le-leb, ltb-true, leb-true}
-use Rattle.super_journal.proofs.Names.{Found, found_none, found_skip, found_more, must_fit, no_end, none_found, all_found}
+use Rattle.super_journal.proofs.Names.{found_none, found_more, must_fit, no_end, none_found, all_found}
 use Rattle.super_journal.proofs.reader.read_names.Goals as goal
 
 pub loop-i-init : goal.loop-i-init

@@ -1,10 +1,10 @@
-use Rattle.std.proofs.Common.{◌≡◌, ℕ, ◌+◌, ◌*◌, ◌<◌, ◌≤◌, List, [], ◌∷◌, length, get_or, take, sym, refl, ap, ◌∙◌, arith}
+use Rattle.std.proofs.Common.{ℕ, ◌+◌, ◌<◌, List, [], ◌∷◌, length, sym, refl, ap, ◌∙◌, arith}
 use Rattle.std.proofs.lemmas.List.{take_all}
-use Rattle.card.specs.Meaning.{Bytes, Name}
+use Rattle.card.specs.Meaning.{Name}
 use Rattle.card.specs.Calls.{overwrite}
 use Rattle.super_journal.specs.Super.{super_journal_bytes}
 use Rattle.super_journal.specs.Written.{texts}
-use Rattle.super_journal.proofs.Listed.{text_at, length_texts, each_all, length_more, length_front, filled_none, filled_more}
+use Rattle.super_journal.proofs.Listed.{text_at, length_texts, length_more, length_front, filled_none, filled_more}
 use Rattle.super_journal.proofs.writer.fill_names.Goals as goal
 
 pub loop-k-init : goal.loop-k-init

@@ -1,5 +1,5 @@
-use Rattle.std.proofs.Common.{◌≡◌, ℕ, ◌+◌, ◌*◌, ◌<◌, ◌≤◌, List, [], length, get_or, sym, refl, ap, ◌∙◌, arith}
-use Rattle.card.specs.Meaning.{Bytes, Name}
+use Rattle.std.proofs.Common.{List, length, refl, ap, ◌∙◌, arith}
+use Rattle.card.specs.Meaning.{Name}
 use Rattle.std.proofs.lemmas.List.{take_all}
 use Rattle.super_journal.specs.Super.{super_journal_bytes}
 use Rattle.super_journal.specs.Written.{texts}
