@@ -1,8 +1,7 @@
 // The delayed card and the trouble layer at their limits.
 use card::{Card, CardCall, CardFault, Cause};
-use delayed_card::{DelayedCard, Untold};
+use cards::{DelayedCard, TroubleLayer, Untold};
 use std::test::Fail;
-use trouble_layer::TroubleLayer;
 
 /// Two halves of 16 slots, with 8 bytes for each file.
 const IMAGE: usize = 1440;

@@ -1,6 +1,6 @@
 // The direct card at its limits.
 use card::{Card, CardCall, CardFault, Cause};
-use direct_card::DirectCard;
+use cards::DirectCard;
 
 /// An image of 16 slots with 3 bytes for each file.
 const SMALL: usize = 640;

@@ -1,6 +1,6 @@
 -- The journals of all databases are made: each leaves what the databases hold.
 use Rattle.std.proofs.Common.{◌≡◌, ℕ, suc, ◌+◌, ◌<◌, ◌≤◌, Bool, true, false, ◌⊎◌, List, [], ◌∷◌, ◌++◌, map, get_or, Ok, Err, Option, Result, sym, refl, ap, ◌∙◌, subst, ap₂, inl, inr, arith}
-use Rattle.std.specs.List.{AllByRecursion as All}
+use Rattle.std.specs.List.{AllByRecursion}
 use Rattle.card.specs.Meaning.{Meaning, Bytes, Name}
 use Rattle.journal.specs.Format.{PageRecord}
 use Rattle.journal_writer.specs.OnCard.{store_acts}
@@ -14,13 +14,13 @@ use Rattle.journaling.specs.Changes.{contents, recorded, is_changed, changed_lis
 use Rattle.commit.proofs.Turns.{Round, round_none, round_skip, round_more, round_stop}
 
 module _ {C : Type 0} (m : Meaning C) (file : ℕ → Name) (nonce : ℕ) (super : Option Name) where
-  reads_spare : (k n : Name) (d i : ℕ) (ps : List ℕ) → All (Spares m k) (read_tasks n d i ps)
+  reads_spare : (k n : Name) (d i : ℕ) (ps : List ℕ) → AllByRecursion (Spares m k) (read_tasks n d i ps)
   unfolding read_tasks
   reads_spare k n d i [] = tt
   reads_spare k n d i (p ∷ ps) = (inl tt, reads_spare k n d (suc i) ps)
 
   -- another file than the journal holds what it held
-  journal_spares : (k : Name) (ch : Change) → (k ≡ file (4 + ch.database) → ⊥) → All (Spares m k) (journal_tasks file nonce super ch)
+  journal_spares : (k : Name) (ch : Change) → (k ≡ file (4 + ch.database) → ⊥) → AllByRecursion (Spares m k) (journal_tasks file nonce super ch)
   journal_spares k ch ne =
       (inr ne, all_append m (Spares m k) (read_tasks (file ch.database) ch.database 1 ch.recorded) _ (reads_spare k (file ch.database) ch.database 1 ch.recorded) (inr ne, (inr ne, (inr ne, (inr ne, tt)))))
 

@@ -1,7 +1,7 @@
 -- The parts of a commit, one after the other, are its plan.
 use Rattle.std.proofs.Common.{◌≡◌, ℕ, ◌+◌, ◌<◌, ◌≤◌, Bool, true, false, cond, leb, ◌⊎◌, List, [], ◌∷◌, ◌++◌, map, length, Ok, Err, Result, sym, refl, ap, ◌∙◌, subst, ap₂, inl, inr, arith}
 use Rattle.std.proofs.lemmas.List.{length-map}
-use Rattle.std.specs.List.{AllByRecursion as All}
+use Rattle.std.specs.List.{AllByRecursion}
 use Rattle.card.specs.Meaning.{Meaning, Bytes, Name}
 use Rattle.card.specs.Calls.{delete}
 use Rattle.card.specs.Runs.{Act}
@@ -74,7 +74,7 @@ module _ {C : Type 0} (m : Meaning C) (file : ℕ → Name) (nonce : ℕ) (base 
       pub kept_stored : (apart : (k : ℕ) → k < n → file k ≡ file 8 → ⊥) (k : ℕ) → k < n → contents (m.holds c₁ (file k)) ≡ stored k
       kept_stored apart k lt = ap contents (spared_holds m (file k) opening c c₁ (spared several) opened.ended)
         where
-          spared : (b : Bool) → All (Spares m (file k)) (cond b (naming_tasks file (map (λ d. file (4 + d)) list)) [])
+          spared : (b : Bool) → AllByRecursion (Spares m (file k)) (cond b (naming_tasks file (map (λ d. file (4 + d)) list)) [])
           spared true = (inr (apart k lt), (inr (apart k lt), (inr (apart k lt), tt)))
           spared false = tt
 

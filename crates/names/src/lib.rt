@@ -2,7 +2,9 @@
 #![tactic(auto)]
 
 mod file_name;
+mod list_refusal;
 mod names;
 
 pub use file_name::FileName;
+pub use list_refusal::ListRefusal;
 pub use names::{DATABASES, Names, SUPER_JOURNAL, checked};

@@ -5,7 +5,7 @@ ghost use Rattle.names.specs.Names.{journal_ending, super_ending, length_ok, pri
 ghost use Rattle.names.specs.Refused.{Refused, Checked, FirstBad, Each};
 
 use crate::file_name::FileName;
-use refusal::Refusal;
+use crate::list_refusal::ListRefusal;
 
 /// The most databases of a list.
 pub const DATABASES: usize = 4;
@@ -170,20 +170,20 @@ fn padded(name: &[u8]) -> [u8; 24]
 
 /// Checks a list of names. The tests go in the order of their numbers: the count, each name's
 /// length, each name's bytes, and that the names of all files differ.
-pub fn checked(list: &[&[u8]]) -> Result<Names, Refusal>
+pub fn checked(list: &[&[u8]]) -> Result<Names, ListRefusal>
     ensures { MatchResult result (λ n. Checked (texts list.now) n.rows n.lens n.count) (λ e. Refused e (texts list.now)) }
 {
     if list.len() == 0 || list.len() > DATABASES {
-        return Err(Refusal::NameCount);
+        return Err(ListRefusal::Count);
     }
     if let Some(i) = first_long(list) {
-        return Err(Refusal::NameLength(i));
+        return Err(ListRefusal::Length(i));
     }
     if let Some(i) = first_odd(list) {
-        return Err(Refusal::NameByte(i));
+        return Err(ListRefusal::Byte(i));
     }
     if has_twins(list) {
-        return Err(Refusal::NamesEqual);
+        return Err(ListRefusal::Equal);
     }
     let mut rows = [[0u8; 24]; 4];
     let mut lens = [0usize; 4];

@@ -6,8 +6,8 @@ use Rattle.pager.specs.declared.changed_page.ChangedPage.{ChangedPage}
 use Rattle.pager.specs.declared.saved_page.SavedPage.{SavedPage}
 use Rattle.pager.specs.declared.saved_page.Was.{Was}
 use Rattle.pager.specs.declared.saved_page.Was.TheVariants.{Changed, Unchanged, Absent}
-use Rattle.refusal.specs.declared.refusals.Refusal.{Refusal}
-use Rattle.refusal.specs.declared.refusals.Refusal.TheVariants.{NoDatabase, BufferLength, Page, ChangedFull, SavedFull}
+use Rattle.pager.specs.declared.refusal.Refusal.{Refusal}
+use Rattle.pager.specs.declared.refusal.Refusal.TheVariants.{NoDatabase, BufferLength, Page, ChangedFull, SavedFull}
 use Rattle.page_map.specs.declared.PageMap.{PageMap}
 use Rattle.page_map.specs.Sets.{PageSet, total}
 use Rattle.pager.specs.Changed.{look}

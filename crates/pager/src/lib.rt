@@ -5,11 +5,13 @@
 mod changed_page;
 mod changed_pages;
 mod memory;
+mod refusal;
 mod saved_page;
 mod saved_pages;
 
 pub use changed_page::ChangedPage;
 pub use changed_pages::CHANGED_LIMIT;
 pub use memory::{DATABASES, Memory, SAVEPOINTS};
+pub use refusal::Refusal;
 pub use saved_page::{SavedPage, Was};
 pub use saved_pages::SAVED_LIMIT;

@@ -1,6 +1,5 @@
 // A transaction's memory at its limits.
-use pager::Memory;
-use refusal::Refusal;
+use pager::{Memory, Refusal};
 
 /// A page of one byte value.
 const PAGE: [u8; 512] = [7; 512];

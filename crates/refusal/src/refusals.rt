@@ -2,8 +2,10 @@
 ghost use Rattle.std.specs.Prelude.{◌≡◌};
 ghost use Rattle.refusal.specs.declared.refusals.Refusal.TheVariants.{Card as by_card};
 ghost use Rattle.refusal.specs.Numbers.{refusal_number};
+ghost use Rattle.refusal.specs.Raised.{of_list, of_memory};
 
 use crate::fault::SetFault;
+use names::ListRefusal;
 
 /// Why a call is refused, with what goes beside the number. The tests of a call go in the order of
 /// the numbers. Names and files go by number, from 0.
@@ -79,5 +81,34 @@ impl From<SetFault> for Refusal {
 
     fn from(fault: SetFault) -> Refusal {
         Refusal::Card(fault)
+    }
+}
+
+impl From<ListRefusal> for Refusal {
+    ghost from_gives = { λ e r. r ≡ of_list e };
+
+    fn from(refusal: ListRefusal) -> Refusal {
+        match refusal {
+            ListRefusal::Count => Refusal::NameCount,
+            ListRefusal::Length(which) => Refusal::NameLength(which),
+            ListRefusal::Byte(which) => Refusal::NameByte(which),
+            ListRefusal::Equal => Refusal::NamesEqual,
+        }
+    }
+}
+
+impl From<pager::Refusal> for Refusal {
+    ghost from_gives = { λ e r. r ≡ of_memory e };
+
+    fn from(refusal: pager::Refusal) -> Refusal {
+        match refusal {
+            pager::Refusal::NoDatabase => Refusal::NoDatabase,
+            pager::Refusal::BufferLength => Refusal::BufferLength,
+            pager::Refusal::Page => Refusal::Page,
+            pager::Refusal::ChangedFull => Refusal::ChangedFull,
+            pager::Refusal::SavedFull => Refusal::SavedFull,
+            pager::Refusal::SavepointsFull => Refusal::SavepointsFull,
+            pager::Refusal::NoSavepoint => Refusal::NoSavepoint,
+        }
     }
 }

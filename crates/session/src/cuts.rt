@@ -2,9 +2,8 @@
 use crate::report::{holdings, refusal};
 use anyhow::anyhow;
 use card::{Card, CardFault};
-use delayed_card::DelayedCard;
+use cards::{DelayedCard, TroubleLayer};
 use std::alloc::Global;
-use trouble_layer::TroubleLayer;
 
 /// The calls of the task, in their order.
 const CALLS: [&str; 7] = [
@@ -64,6 +63,7 @@ fn troubled(heap: Global, call: u32) -> anyhow::Result<(String, String)> {
 
 /// A row for each call at which power is cut, with what remained by what the card kept.
 pub fn cut_each(rt: &HostRuntime) -> anyhow::Result<()> {
+    println!(rt; "")?;
     println!(rt; "A delayed card, with the power cut at each call in turn: what remained")?;
     println!(rt; "")?;
     println!(rt;

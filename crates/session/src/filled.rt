@@ -46,7 +46,7 @@ pub fn fill(buffer: &mut [u8], pages: &[u8], name: Option<&[u8]>) -> anyhow::Res
 }
 
 /// Prints bytes as hexadecimal digits, 32 bytes to a line.
-pub fn print_hex(rt: &HostRuntime, bytes: &[u8]) -> anyhow::Result<()> {
+fn print_hex(rt: &HostRuntime, bytes: &[u8]) -> anyhow::Result<()> {
     for line in bytes.chunks(32) {
         let mut text = String::new(rt.alloc());
         for b in line {

@@ -1,81 +1,94 @@
-// The program: a file task on a delayed card, cut or refused at each of its calls in turn; a journal,
-// judged; a transaction in memory; and a set, told call by call, cut in its commit and in its recovery.
+// The program: a file task on a direct card, told call by call, and a short one on a delayed card,
+// cut or refused at each of its calls in turn.
 #![tactic(auto)]
 
-mod board;
 mod cuts;
 mod filled;
 mod journals;
 mod pages;
-mod real;
 mod report;
-mod story;
-mod words;
 
+use anyhow::anyhow;
+use card::Card;
+use cards::DirectCard;
 use cuts::{cut_each, trouble_each};
 use filled::print_journal;
 use journals::judge_each;
 use pages::change_pages;
-use real::{Change, print_cut};
+use report::Report;
 use std::{env, fs};
-use story::tell_set;
 
-/// Prints the report.
+/// A card of 16 slots of 64 bytes: 27 bytes for each file.
+const IMAGE: usize = 1024;
+
+/// The origin that the card's faults carry.
+const ORIGIN: u8 = 7;
+
+/// Keeps notes and a trace on the card, with one write that the card must refuse.
+fn keep_notes<C: Card>(report: &mut Report, card: &mut C) -> anyhow::Result<()> {
+    let answer = card.length(b"notes");
+    report.told(card, "length of notes", answer)?;
+    let answer = card.create(b"notes");
+    report.done(card, "create notes", answer)?;
+    let answer = card.write(b"notes", 0, b"probe ready");
+    report.done(card, "write 11 bytes into notes at 0", answer)?;
+    let answer = card.sync(b"notes");
+    report.done(card, "sync notes", answer)?;
+    let mut text = [0u8; 5];
+    let answer = card.read(b"notes", 6, &mut text);
+    report.read(card, "read 5 bytes of notes at 6", answer, &text)?;
+    let answer = card.write(b"notes", 20, b"late");
+    report.done(card, "write 4 bytes into notes at 20", answer)
+}
+
+/// Cuts and fills the notes, and replaces them by a trace.
+fn keep_trace<C: Card>(report: &mut Report, card: &mut C) -> anyhow::Result<()> {
+    let answer = card.set_length(b"notes", 5);
+    report.done(card, "set the length of notes to 5", answer)?;
+    let answer = card.set_length(b"notes", 8);
+    report.done(card, "set the length of notes to 8", answer)?;
+    let answer = card.create(b"trace");
+    report.done(card, "create trace", answer)?;
+    let answer = card.write(b"trace", 0, b"break at main");
+    report.done(card, "write 13 bytes into trace at 0", answer)?;
+    let answer = card.sync(b"trace");
+    report.done(card, "sync trace", answer)?;
+    let answer = card.delete(b"notes");
+    report.done(card, "delete notes", answer)
+}
+
 fn run(rt: &HostRuntime) -> anyhow::Result<()> {
+    let mut image = [0u8; IMAGE];
+    let mut card = DirectCard::new(&mut image, ORIGIN);
+    let mut report = Report::begin(rt, "A direct card: 16 slots, 27 bytes for each file")?;
+    keep_notes(&mut report, &mut card)?;
+    keep_trace(&mut report, &mut card)?;
+    report.end()?;
     cut_each(rt)?;
     trouble_each(rt)?;
     judge_each(rt)?;
-    change_pages(rt)?;
-    tell_set(rt)
+    change_pages(rt)
 }
 
-/// What the program can be asked.
-const USAGE: &str = "session [journal DATABASE [SUPER] | cut CALL KEPT OLD NEW OLD NEW]";
-
-/// The word of that number; empty if there is none.
-fn word(words: &[String], i: usize) -> &str {
-    match words.get(i) {
-        Some(word) => word.as_str(),
-        None => "",
-    }
-}
-
-/// Prints a journal of a file's pages as hex.
-fn journal(rt: &HostRuntime, words: &[String]) -> anyhow::Result<()> {
-    let pages = fs::read(rt, word(words, 2))?;
-    let name = word(words, 3).as_bytes();
-    print_journal(rt, &pages, if name.len() == 0 { None } else { Some(name) })
-}
-
-/// Prints what a cut in the commit of two databases left, and the recovered files.
-fn cut(rt: &HostRuntime, words: &[String]) -> anyhow::Result<()> {
-    let call = word(words, 2).parse::<u32>()?;
-    let kept = word(words, 3).parse::<u8>()?;
-    let a = Change {
-        old: fs::read(rt, word(words, 4))?,
-        new: fs::read(rt, word(words, 5))?,
-    };
-    let b = Change {
-        old: fs::read(rt, word(words, 6))?,
-        new: fs::read(rt, word(words, 7))?,
-    };
-    print_cut(rt, call, kept, &a, &b)
-}
-
-/// Does what the words ask for; without words it prints the report.
+/// Does what the words ask for: nothing is the report, and `journal DATABASE [SUPER]` prints a journal
+/// of the file's pages as hex.
 fn act(rt: &HostRuntime) -> anyhow::Result<()> {
-    let words: Vec<String> = env::args(rt)?.collect(rt.alloc())?;
-    let asked = word(&words, 1);
-    if asked == "" {
+    let mut words = env::args(rt)?;
+    let _ = words.next();
+    let Some(word) = words.next() else {
         return run(rt);
+    };
+    let Some(path) = words.next() else {
+        return Err(anyhow!("journal DATABASE [SUPER]"));
+    };
+    if word.as_str() != "journal" {
+        return Err(anyhow!("journal DATABASE [SUPER]"));
     }
-    if asked == "journal" {
-        return journal(rt, &words);
+    let pages = fs::read(rt, path.as_str())?;
+    match words.next() {
+        Some(name) => print_journal(rt, &pages, Some(name.as_bytes())),
+        None => print_journal(rt, &pages, None),
     }
-    if asked == "cut" {
-        return cut(rt, &words);
-    }
-    Err(USAGE.into())
 }
 
 fn main(rt: HostRuntime) -> anyhow::Result<()> {

@@ -1,6 +1,5 @@
 // A transaction in memory, with nested savepoints, told step by step.
-use pager::Memory;
-use refusal::Refusal;
+use pager::{Memory, Refusal};
 
 /// The header of the table of steps.
 fn head(rt: &HostRuntime) -> anyhow::Result<()> {

@@ -1,6 +1,6 @@
 -- Looks one after the other, and what they leave.
 use Rattle.std.proofs.Common.{◌≡◌, ℕ, ◌⊎◌, List, [], ◌∷◌, ◌++◌, length, Some, None, Ok, Err, Option, Result, sym, refl, ◌∙◌, subst, inl, inr, arith}
-use Rattle.std.specs.List.{AllByRecursion as All}
+use Rattle.std.specs.List.{AllByRecursion}
 use Rattle.card.specs.Meaning.{Meaning, Bytes, Name}
 use Rattle.card.specs.Calls.{Op, length_told}
 use Rattle.card.specs.Runs.{Act}
@@ -45,7 +45,7 @@ module _ {C : Type 0} (m : Meaning C) (step : Step) (file : ℕ → Name) where
         went = went_then m p.list q.list c c₁ c₂ tt r p.went q.went;
       }
 
-  looks_acts : (ts : List Task) → All (Looking step file) ts → All (λ a. Looks a.op) (acts ts)
+  looks_acts : (ts : List Task) → AllByRecursion (Looking step file) ts → AllByRecursion (λ a. Looks a.op) (acts ts)
   looks_acts [] a = tt
   looks_acts (t ∷ ts) a = (a.0.looks, looks_acts ts a.1)
 
@@ -71,7 +71,7 @@ module _ {C : Type 0} (m : Meaning C) (step : Step) (file : ℕ → Name) where
         went = went_ended (task s n op ∷ []) c c₁ r q;
       }
 
-  looking_tasks : (k : ℕ) (n : Name) (list : List Act) → ((k ≡ 9) ⊎ (n ≡ file k)) → All (λ a. (a.name ≡ n) × Looks a.op) list → All (Looking step file) (tasks (record { step = Some step; file = k; «record» = 0 }) list)
+  looking_tasks : (k : ℕ) (n : Name) (list : List Act) → ((k ≡ 9) ⊎ (n ≡ file k)) → AllByRecursion (λ a. (a.name ≡ n) × Looks a.op) list → AllByRecursion (Looking step file) (tasks (record { step = Some step; file = k; «record» = 0 }) list)
   looking_tasks k n [] w a = tt
   looking_tasks k n (x ∷ list) w a = (record { in_step = refl; no_record = refl; looks = a.0.1; named = by w }, looking_tasks k n list w a.1)
     where
@@ -82,11 +82,11 @@ module _ {C : Type 0} (m : Meaning C) (step : Step) (file : ℕ → Name) where
   -- several looks at one file
   pub looked_acts :
       {V : Type 0} (c c₁ : C) (s : Site) (k : ℕ) (n : Name) (list : List Act) (r : Result V SetFault) → s ≡ record { step = Some step; file = k; «record» = 0 } →
-      ((k ≡ 9) ⊎ (n ≡ file k)) → All (λ a. (a.name ≡ n) × Looks a.op) list → Went m (tasks s list) c r c₁ → Looked m step file c (ended r) c₁
+      ((k ≡ 9) ⊎ (n ≡ file k)) → AllByRecursion (λ a. (a.name ≡ n) × Looks a.op) list → Went m (tasks s list) c r c₁ → Looked m step file c (ended r) c₁
   looked_acts c c₁ s k n list r e w a q =
       record {
         list = tasks s list;
-        each = subst (λ (x : Site). All (Looking step file) (tasks x list)) (sym e) (looking_tasks k n list w a);
+        each = subst (λ (x : Site). AllByRecursion (Looking step file) (tasks x list)) (sym e) (looking_tasks k n list w a);
         went = went_ended (tasks s list) c c₁ r q;
       }
 
@@ -156,7 +156,7 @@ pub told_more :
 told_more (Ok v) g g' d d' f f' b b' p q s t h = p v h
 told_more (Err e) g g' d d' f f' b b' p q s t h = says_more e d d' f f' b b' q s t h
 
-judge_looks : (n : Name) (f : Option Bytes) → All (λ a. (a.name ≡ n) × Looks a.op) (judge_acts n f)
+judge_looks : (n : Name) (f : Option Bytes) → AllByRecursion (λ a. (a.name ≡ n) × Looks a.op) (judge_acts n f)
 judge_looks n None = ((refl, tt), tt)
 judge_looks n (Some b) = ((refl, tt), ((refl, tt), tt))
 

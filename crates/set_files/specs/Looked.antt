@@ -1,6 +1,6 @@
 -- Answers of a part of recovery, and a part that only looks at files.
 use Rattle.std.specs.Prelude.{◌≡◌, ℕ, ◌⊎◌, List, Some, Ok, Err, Result}
-use Rattle.std.specs.List.{AllByRecursion as All}
+use Rattle.std.specs.List.{AllByRecursion}
 use Rattle.card.specs.Meaning.{Meaning, Name}
 use Rattle.refusal.specs.declared.step.Step.{Step}
 use Rattle.refusal.specs.declared.fault.SetFault.{SetFault}
@@ -97,5 +97,5 @@ pub record Looking (step : Step) (file : ℕ → Name) (t : Task) : Type 0 where
 -- calls of a step that only look, done up to the first that the card refuses
 pub record Looked {C : Type 0} (m : Meaning C) (step : Step) (file : ℕ → Name) (c : C) (r : Result (Unit {0}) SetFault) (c' : C) : Type 0 where
   pub list : List Task
-  pub each : All (Looking step file) list
+  pub each : AllByRecursion (Looking step file) list
   pub went : Went m list c r c'

@@ -1,7 +1,7 @@
 -- What files hold after a run that came through: what they held, if no act is on them, or if all acts only look.
 use Rattle.std.proofs.Common.{◌≡◌, ℕ, ◌⊎◌, List, [], ◌∷◌, ◌++◌, Some, None, Option, sym, refl, ap, ◌∙◌, subst, inl, inr, arith}
 use native.Mathlib.Decide.{ℕ_discrete}
-use Rattle.std.specs.List.{AllByRecursion as All}
+use Rattle.std.specs.List.{AllByRecursion}
 use Rattle.card.specs.Meaning.{Meaning, Bytes, Name}
 use Rattle.card.specs.Calls.{Op, length_of, read, create, write, set_length, sync, delete, Worked, worked}
 use Rattle.card.specs.Runs.{Act, End, through, stopped, Runs, end, next, stop}
@@ -37,12 +37,12 @@ module _ {C : Type 0} (m : Meaning C) where
       by (yes e) = ap (m.holds c') e ∙ w.holds ∙ worked_look op (m.holds c n) l ∙ sym (ap (m.holds c) e)
       by (no ne) = (w.others k ne).holds
 
-  pub looked_holds : (acts : List Act) (c c' : C) → All (λ a. Looks a.op) acts → Runs m acts c through c' → (k : Name) → m.holds c' k ≡ m.holds c k
+  pub looked_holds : (acts : List Act) (c c' : C) → AllByRecursion (λ a. Looks a.op) acts → Runs m acts c through c' → (k : Name) → m.holds c' k ≡ m.holds c k
   looked_holds acts c c' l end k = refl
   looked_holds acts c c' l (next {a = a} {acts = rest} {c₁ = d} w r) k = looked_holds rest d c' l.1 r k ∙ look_holds c d a.name a.op l.0 w k
 
   -- and so, as functions
-  pub looked_files : (acts : List Act) (c c' : C) → All (λ a. Looks a.op) acts → Runs m acts c through c' → m.holds c' ≡ m.holds c
+  pub looked_files : (acts : List Act) (c c' : C) → AllByRecursion (λ a. Looks a.op) acts → Runs m acts c through c' → m.holds c' ≡ m.holds c
   looked_files acts c c' l r = λ i k. looked_holds acts c c' l r k i
 
   -- a file that no act is on
@@ -54,7 +54,7 @@ module _ {C : Type 0} (m : Meaning C) where
   leaves_append k [] ys p q = q
   leaves_append k (a ∷ xs) ys p q = (p.0, leaves_append k xs ys p.1 q)
 
-  pub all_append : {A : Type 0} (P : A → Type 0) (xs ys : List A) → All P xs → All P ys → All P (xs ++ ys)
+  pub all_append : {A : Type 0} (P : A → Type 0) (xs ys : List A) → AllByRecursion P xs → AllByRecursion P ys → AllByRecursion P (xs ++ ys)
   all_append P [] ys p q = q
   all_append P (a ∷ xs) ys p q = (p.0, all_append P xs ys p.1 q)
 
@@ -62,7 +62,7 @@ module _ {C : Type 0} (m : Meaning C) where
   abbrev pub Spares : Name → Task → Type 0
   Spares k t = Looks t.act.op ⊎ (k ≡ t.act.name → ⊥)
 
-  pub spared_holds : (k : Name) (ts : List Task) (c c' : C) → All (Spares k) ts → Runs m (acts ts) c through c' → m.holds c' k ≡ m.holds c k
+  pub spared_holds : (k : Name) (ts : List Task) (c c' : C) → AllByRecursion (Spares k) ts → Runs m (acts ts) c through c' → m.holds c' k ≡ m.holds c k
   spared_holds k [] c c' s end = refl
   spared_holds k (t ∷ ts) c c' s (next {c₁ = d} w r) = spared_holds k ts d c' s.1 r ∙ one s.0
     where

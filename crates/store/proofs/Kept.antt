@@ -46,6 +46,6 @@ pub second : (first later r : Option Refusal) → None ≡ first → r ≡ later
 second first later r e h = subst (λ (x : Option Refusal). r ≡ or_else x later) e h
 
 -- a test that let the call pass
-pub passed : (b : Bool) (x : Option Refusal) (e : Refusal) → cond b x (Some e) ≡ None → (b ≡ true) × (x ≡ None)
+pub passed : {E : Type 0} (b : Bool) (x : Option E) (e : E) → cond b x (Some e) ≡ None → (b ≡ true) × (x ≡ None)
 passed true x e h = (refl, h)
 passed false x e h = absurd (let z : ◌≡◌ {A = ℕ} 0 1 = cc in omega arith)

@@ -6,5 +6,6 @@ mod set;
 mod transaction;
 
 pub use mode::Mode;
+pub use names::{DATABASES, FileName, ListRefusal, Names, checked};
 pub use set::Set;
 pub use transaction::Transaction;

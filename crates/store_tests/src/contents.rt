@@ -1,7 +1,7 @@
 // The databases of the tests: their files, the transaction that changes them, and what they show.
 use card::{Card, CardFault};
 use journal::PAGE;
-use names::{Names, checked};
+use names::{ListRefusal, Names, checked};
 use refusal::Refusal;
 use std::process::Abort;
 use std::test::Fail;
@@ -35,7 +35,7 @@ pub fn page(database: u8, number: u8, version: Version) -> [u8; PAGE] {
 }
 
 /// The names of the first databases: a, b, c, d.
-pub fn names(count: u8) -> Result<Names, Refusal> {
+pub fn names(count: u8) -> Result<Names, ListRefusal> {
     match count {
         1 => checked(&[b"a"]),
         2 => checked(&[b"a", b"b"]),
@@ -81,15 +81,23 @@ fn check_database<C: Card>(
     version: Version,
 ) -> Result<(), Fail> {
     let size = size(version);
-    assert_eq!(rt; set.size(database as usize), Ok(size as u32));
+    assert_eq!(rt;
+        set.size(database as usize),
+        Ok(size as u32),
+        "database {database}, to show {version:?}"
+    );
     for before in 0..size {
         let number = before.saturating_add(1);
         let mut bytes = [0u8; PAGE];
         assert_eq!(rt;
             set.read(database as usize, number as u32, &mut bytes),
-            Ok(())
+            Ok(()),
+            "page {number} of database {database}, to show {version:?}"
         );
-        assert!(rt; bytes == page(database, number, version), "page {number}");
+        assert!(rt;
+            bytes == page(database, number, version),
+            "page {number} of database {database}, to show {version:?}"
+        );
     }
     Ok(())
 }
@@ -102,9 +110,7 @@ pub fn check_all<C: Card>(
     version: Version,
 ) -> Result<(), Fail> {
     for database in 0..count {
-        check_database(rt, set, database, version).note(format_args!(
-            "database {database}, to show {version:?}"
-        ))?;
+        check_database(rt, set, database, version)?;
     }
     Ok(())
 }

@@ -111,7 +111,7 @@ fn check_harm(rt: &impl Abort, harm: Harm) -> Result<(), Fail> {
 #[test]
 fn each_damaged_journal_is_told(rt: HostRuntime) -> Result<(), Fail> {
     for harm in harms() {
-        check_harm(&rt, harm).note(format_args!("byte {}", harm.place))?;
+        check_harm(&rt, harm)?;
     }
     Ok(())
 }

@@ -113,7 +113,7 @@ fn a_super_journal_has_the_form_of_a_list(rt: HostRuntime) -> Result<(), Fail> {
             name: b"a-mj",
             bytes: forms[i],
         };
-        check_refused(&rt, &[hot, ours], refusal).note(format_args!("form {i}"))?;
+        check_refused(&rt, &[hot, ours], refusal)?;
     }
     Ok(())
 }

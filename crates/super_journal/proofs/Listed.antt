@@ -1,6 +1,6 @@
 -- Names in a list, tested and put one by one.
 use Rattle.std.proofs.Common.{◌≡◌, ℕ, zero, suc, ◌+◌, ◌<◌, ◌≤◌, List, [], ◌∷◌, ◌++◌, length, get_or, take, sym, refl, ap, ◌∙◌, append_assoc, arith, length-append, Bor}
-use Rattle.std.specs.List.{AllByRecursion as All}
+use Rattle.std.specs.List.{AllByRecursion}
 use Rattle.std.proofs.lemmas.List.{take_more}
 use Rattle.card.specs.Meaning.{Bytes, Name}
 use Rattle.card.specs.Calls.{overwrite}
@@ -18,11 +18,11 @@ pub length_texts : (rs : List (Bor Bytes)) → length (texts rs) ≡ length rs
 length_texts [] = refl
 length_texts (r ∷ rs) = ap suc (length_texts rs)
 
-pub all_each : (ns : List Name) → ((k : ℕ) → k < length ns → Plain (get_or ns k [])) → All Plain ns
+pub all_each : (ns : List Name) → ((k : ℕ) → k < length ns → Plain (get_or ns k [])) → AllByRecursion Plain ns
 all_each [] each = tt
 all_each (n ∷ ns) each = (each 0 (omega arith), all_each ns (λ k lt. each (suc k) (omega arith)))
 
-pub each_all : (ns : List Name) → All Plain ns → (k : ℕ) → k < length ns → Plain (get_or ns k [])
+pub each_all : (ns : List Name) → AllByRecursion Plain ns → (k : ℕ) → k < length ns → Plain (get_or ns k [])
 each_all [] all k lt = absurd (omega arith)
 each_all (n ∷ ns) all zero lt = all.0
 each_all (n ∷ ns) all (suc k) lt = each_all ns all.1 k (omega arith)

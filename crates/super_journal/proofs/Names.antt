@@ -1,7 +1,7 @@
 -- Names in a super-journal, found one after the other by the zero bytes that end them.
 use Rattle.std.proofs.Common.{◌≡◌, ℕ, suc, ◌+◌, ◌-◌, ◌<◌, ◌≤◌, List, [], ◌∷◌, ◌++◌, length, get_or, take, drop, set, sym, refl, ap, ◌∙◌, subst, ap₂, append_assoc, arith, length-append, length-drop, length-set, length-take, take-add, below_more}
 use native.Mathlib.Decide.{dec_lt}
-use Rattle.std.specs.List.{AllByRecursion as All}
+use Rattle.std.specs.List.{AllByRecursion}
 use Rattle.std.proofs.lemmas.List.{take-append-drop, take_more, take_more_set, take_all, drop_more, drop-drop, get_or-take, get_or-drop, get_or-append_right}
 use Rattle.card.specs.Meaning.{Bytes, Name}
 use Rattle.card.specs.Calls.{part}
@@ -25,8 +25,8 @@ some_names n ns = omega (arith, length-append n (0 ∷ super_journal_bytes ns))
 
 -- a super-journal that begins with the names of another goes on with names
 pub names_front :
-    (ns ms : List Name) (rest : Bytes) → All Plain ns → All Plain ms → super_journal_bytes ns ++ rest ≡ super_journal_bytes ms →
-    (qs : List Name) × All Plain qs × (rest ≡ super_journal_bytes qs) × (length ms ≡ length ns + length qs)
+    (ns ms : List Name) (rest : Bytes) → AllByRecursion Plain ns → AllByRecursion Plain ms → super_journal_bytes ns ++ rest ≡ super_journal_bytes ms →
+    (qs : List Name) × AllByRecursion Plain qs × (rest ≡ super_journal_bytes qs) × (length ms ≡ length ns + length qs)
 unfolding super_journal_bytes
 names_front [] ms rest pn pm e = (ms, pm, e, omega arith)
 names_front (n ∷ ns) [] rest pn pm e = absurd (omega (arith, ap length e, length-append (n ++ (0 ∷ super_journal_bytes ns)) rest, length-append n (0 ∷ super_journal_bytes ns)))
@@ -49,7 +49,7 @@ length_lying : (b : Bytes) (ss : List Span) → length (lying_at b ss) ≡ lengt
 length_lying b [] = refl
 length_lying b (s ∷ ss) = ap suc (length_lying b ss)
 
-all_push : (ns : List Name) (n : Name) → All Plain ns → Plain n → All Plain (ns ++ (n ∷ []))
+all_push : (ns : List Name) (n : Name) → AllByRecursion Plain ns → Plain n → AllByRecursion Plain (ns ++ (n ∷ []))
 all_push [] n ps p = (p, tt)
 all_push (m ∷ ns) n ps p = (ps.0, all_push ns n ps.1 p)
 
@@ -60,7 +60,7 @@ pub record Found (b : Bytes) (places : List Span) (count start i : ℕ) : Type 0
   pub upto : start ≤ i
   pub inside : start ≤ length b
   pub front : take start b ≡ super_journal_bytes (lying_at b (take count places))
-  pub plain : All Plain (lying_at b (take count places))
+  pub plain : AllByRecursion Plain (lying_at b (take count places))
   pub unbroken : (k : ℕ) → k < i → start ≤ k → get_or b k 0 ≡ 0 → ⊥
 
 pub found_none : (b : Bytes) (places : List Span) → length places ≡ 4 → Found b places 0 0 0
@@ -84,7 +84,7 @@ module _ (b : Bytes) (places : List Span) (count start i : ℕ) (so_far : Found 
       }
 
   -- bytes that are a super-journal go on with names from the start on
-  goes_on : (ms : List Name) → LawfulNames ms → b ≡ super_journal_bytes ms → (qs : List Name) × All Plain qs × (drop start b ≡ super_journal_bytes qs) × (length ms ≡ count + length qs)
+  goes_on : (ms : List Name) → LawfulNames ms → b ≡ super_journal_bytes ms → (qs : List Name) × AllByRecursion Plain qs × (drop start b ≡ super_journal_bytes qs) × (length ms ≡ count + length qs)
   goes_on ms ok e =
       let more = names_front names ms (drop start b) so_far.plain ok.each (ap (λ (t : Bytes). t ++ drop start b) (sym so_far.front) ∙ take-append-drop start b ∙ e) in
       (more.0, more.1, more.2, more.3 ∙ ap (λ (n : ℕ). n + length more.0) counted)
@@ -119,7 +119,7 @@ module _ (b : Bytes) (places : List Span) (count start i : ℕ) (so_far : Found 
     unfolding super_journal_bytes
     must_fit ms ok e = let on = goes_on ms ok e in by on.0 on.1 on.2 on.3
       where
-        by : (qs : List Name) → All Plain qs → drop start b ≡ super_journal_bytes qs → length ms ≡ count + length qs → (count < 4) × (1 ≤ i - start) × (i - start ≤ 32)
+        by : (qs : List Name) → AllByRecursion Plain qs → drop start b ≡ super_journal_bytes qs → length ms ≡ count + length qs → (count < 4) × (1 ≤ i - start) × (i - start ≤ 32)
         by [] ps is n = absurd (omega (arith, ap length is, length-drop start b, so_far.upto))
         by (q ∷ qs) ps is n =
             let same : (next ≡ q) × (drop (i + 1) b ≡ super_journal_bytes qs) = first_zero next q (drop (i + 1) b) (super_journal_bytes qs) next_unbroken ps.0.unbroken (sym rest_is ∙ is) in
@@ -140,7 +140,7 @@ module _ (b : Bytes) (places : List Span) (count start i : ℕ) (so_far : Found 
               ∙ ap (λ (t : Bytes). t ++ (next ++ (0 ∷ []))) so_far.front
               ∙ sym (super_push names next)
               ∙ ap super_journal_bytes (sym more);
-          plain = subst (λ (ns : List Name). All Plain ns) (sym more) (all_push names next so_far.plain (record { some = omega (arith, next_long); short = omega (arith, next_long); unbroken = next_unbroken }));
+          plain = subst (λ (ns : List Name). AllByRecursion Plain ns) (sym more) (all_push names next so_far.plain (record { some = omega (arith, next_long); short = omega (arith, next_long); unbroken = next_unbroken }));
           unbroken = λ k lt le. absurd (omega arith);
         }
       where

@@ -1,6 +1,6 @@
 -- The super-journal: the names of the journals that one commit makes, each ended by a zero byte.
 use Rattle.std.specs.Prelude.{ℕ, ◌<◌, ◌≤◌, List, [], ◌∷◌, ◌++◌, length, ◌≢◌, slice_index}
-use Rattle.std.specs.List.{AllByRecursion as All}
+use Rattle.std.specs.List.{AllByRecursion}
 use Rattle.card.specs.Meaning.{Bytes, Name}
 use Rattle.card.specs.Calls.{name_limit, part}
 use Rattle.journal.specs.declared.verdict.Span.{Span}
@@ -25,7 +25,7 @@ pub record Plain (n : Name) : Type 0 where
 pub record LawfulNames (ns : List Name) : Type 0 where
   pub some : 1 ≤ length ns
   pub few : length ns ≤ name_count_limit
-  pub each : All Plain ns
+  pub each : AllByRecursion Plain ns
 
 -- the names that lie at places
 abbrev pub lying_at : Bytes → List Span → List Name

@@ -2,7 +2,7 @@
 use Rattle.std.proofs.Common.{◌≡◌, ℕ, zero, suc, ◌+◌, ◌-◌, ◌*◌, ◌<◌, ◌≤◌, min, ◌⊎◌, List, [], ◌∷◌, ◌++◌, length, get_or, take, drop, Some, Option, sym, refl, ap, ◌∙◌, inl, inr, arith, length-append, length-drop, length-take}
 use Rattle.std.proofs.lemmas.List.{take_all, take_at}
 use Rattle.std.proofs.lemmas.Bool.{cases_lt}
-use Rattle.std.specs.List.{AllByRecursion as All}
+use Rattle.std.specs.List.{AllByRecursion}
 use Rattle.card.specs.Meaning.{Bytes, Name}
 use Rattle.card.specs.Calls.{part, part_of}
 use Rattle.super_journal.specs.Super.{super_journal_bytes, LawfulNames, Plain, lying_at}
@@ -33,12 +33,12 @@ lying_here b [] i lt = absurd (omega arith)
 lying_here b (s ∷ ss) zero lt = refl
 lying_here b (s ∷ ss) (suc i) lt = lying_here b ss i (omega arith)
 
-pub all_at : (P : Name → Type 0) (ns : List Name) (i : ℕ) → All P ns → i < length ns → P (get_or ns i [])
+pub all_at : (P : Name → Type 0) (ns : List Name) (i : ℕ) → AllByRecursion P ns → i < length ns → P (get_or ns i [])
 all_at P [] i a lt = absurd (omega arith)
 all_at P (n ∷ ns) zero a lt = a.0
 all_at P (n ∷ ns) (suc i) a lt = all_at P ns i a.1 (omega arith)
 
-names_each : (ns : List Name) → All Plain ns → length (super_journal_bytes ns) ≤ 33 * length ns
+names_each : (ns : List Name) → AllByRecursion Plain ns → length (super_journal_bytes ns) ≤ 33 * length ns
 unfolding super_journal_bytes
 names_each [] a = omega arith
 names_each (n ∷ ns) a = omega (arith, length-append n (0 ∷ super_journal_bytes ns), a.0.short, names_each ns a.1)

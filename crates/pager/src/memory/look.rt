@@ -1,7 +1,7 @@
 // Making a memory, clearing it, and looking at it.
 ghost use Rattle.std.specs.Prelude.{◌≡◌, ℕ, ◌*◌, ◌<◌, ◌≤◌, min, cond, List, is_some, Some, None, MatchOption, MatchResult, slice_index};
 ghost use Rattle.std.specs.Option.{option_map};
-ghost use Rattle.refusal.specs.declared.refusals.Refusal.TheVariants.{NoDatabase};
+ghost use Rattle.pager.specs.declared.refusal.Refusal.TheVariants.{NoDatabase};
 ghost use Rattle.pager.specs.Changed.{look};
 ghost use Rattle.pager.specs.Machine.{cleared};
 ghost use Rattle.page_map.specs.Sets.{counted, NoneAbove, NextAbove, VisitLaw};
@@ -10,9 +10,9 @@ ghost use Rattle.pager.specs.View.{view, fields, Stored};
 
 use crate::changed_pages::ChangedPages;
 use crate::memory::{DATABASES, Memory};
+use crate::refusal::Refusal;
 use crate::saved_pages::SavedPages;
 use page_map::PageMap;
-use refusal::Refusal;
 
 impl Memory {
     /// The memory of a transaction on so many databases, at most four, of these sizes in pages:

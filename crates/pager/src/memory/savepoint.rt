@@ -1,13 +1,13 @@
 // Savepoints: pushing one, and releasing one with all above it.
 ghost use Rattle.std.specs.Prelude.{◌≡◌, ℕ, ◌+◌, ◌&&◌, leb, List, [], IfOk, if◌then◌else◌, Some, None, ◌≢◌, nat_eq, nat_le};
-ghost use Rattle.refusal.specs.declared.refusals.Refusal.TheVariants.{SavepointsFull, NoSavepoint};
+ghost use Rattle.pager.specs.declared.refusal.Refusal.TheVariants.{SavepointsFull, NoSavepoint};
 ghost use Rattle.pager.specs.Laws.{BackLaw, ReleaseLaw};
 ghost use Rattle.pager.specs.Machine.{pushed, released};
 ghost use Rattle.pager.specs.Saved.{gathered};
 ghost use Rattle.pager.specs.View.{view, fields, refused};
 
 use crate::memory::{Memory, SAVEPOINTS};
-use refusal::Refusal;
+use crate::refusal::Refusal;
 
 impl Memory {
     /// Makes a savepoint of what is held now, and tells its number; the lowest is 1. The contract

@@ -8,10 +8,10 @@ ghost use Rattle.pager.specs.Sound.{map_of};
 ghost use Rattle.pager.specs.View.{view, fields, page_allowed, to_save, write_refusal, was_of, saved_first, refused};
 
 use crate::memory::Memory;
+use crate::refusal::Refusal;
 use crate::saved_page::{SavedPage, Was};
 use crate::saved_pages::SavedPages;
 use page_map::PAGE_LIMIT;
-use refusal::Refusal;
 
 /// The bytes of a page.
 pub const PAGE_SIZE: usize = 512;

@@ -1,6 +1,6 @@
 // The mode and the call together: whether the call may go on, and what the mode is then.
 ghost use Rattle.std.specs.Prelude.{◌≡◌, None, ◌≢◌};
-ghost use Rattle.pager.specs.View.{refused};
+ghost use Rattle.refusal.specs.Raised.{refused};
 ghost use Rattle.store.specs.Modes.{next, counted, says, OnlyAsks};
 
 use crate::mode::{Call, Mode};

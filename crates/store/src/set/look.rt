@@ -75,6 +75,7 @@ impl<C> Set<C> {
     pub fn size(&self, database: usize) -> Result<u32, Refusal>
         ensures { MatchResult result (λ n. (database < self.now.names.count) × (n ≡ slice_index self.now.memory.sizes database)) (λ e. (self.now.names.count ≤ database) × (e ≡ NoDatabase)) }
     {
-        self.memory.size(database)
+        let pages = self.memory.size(database)?;
+        Ok(pages)
     }
 }

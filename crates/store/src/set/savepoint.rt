@@ -2,7 +2,8 @@
 ghost use Rattle.std.specs.Prelude.{◌≡◌, ℕ, ◌+◌, List, [], IfOk, None, ◌≢◌};
 ghost use Rattle.pager.specs.Machine.{pushed, released};
 ghost use Rattle.pager.specs.Saved.{gathered};
-ghost use Rattle.pager.specs.View.{view, fields, refused};
+ghost use Rattle.pager.specs.View.{view, fields};
+ghost use Rattle.refusal.specs.Raised.{refused};
 ghost use Rattle.store.specs.Calls.{savepoint_refusal, release_refusal, ButMemory};
 
 use crate::mode::Call;
@@ -22,7 +23,8 @@ impl<C> Set<C> {
     {
         let number = t.number();
         self.admit(Call::Use { number })?;
-        self.memory.push()
+        let made = self.memory.push()?;
+        Ok(made)
     }
 
     /// Removes savepoint s and all above it. Nothing that is held changes.
@@ -35,6 +37,7 @@ impl<C> Set<C> {
         ensures others { ButMemory self.old self.new }
     {
         self.admit(Call::Use { number: t.number() })?;
-        self.memory.release(s)
+        self.memory.release(s)?;
+        Ok(())
     }
 }

@@ -2,7 +2,8 @@
 ghost use Rattle.std.specs.Prelude.{◌≡◌, ℕ, ◌+◌, cond, List, length as count_of, None, ◌≢◌};
 ghost use Rattle.pager.specs.Machine.{written};
 ghost use Rattle.pager.specs.Sound.{map_of};
-ghost use Rattle.pager.specs.View.{view, fields, saved_first, refused};
+ghost use Rattle.pager.specs.View.{view, fields, saved_first};
+ghost use Rattle.refusal.specs.Raised.{refused};
 ghost use Rattle.store.specs.Calls.{writing_refusal, ButMemory};
 
 use crate::mode::Call;
@@ -27,6 +28,7 @@ impl<C> Set<C> {
         ensures others { ButMemory self.old self.new }
     {
         self.admit(Call::Use { number: t.number() })?;
-        self.memory.write(database, page, bytes)
+        self.memory.write(database, page, bytes)?;
+        Ok(())
     }
 }

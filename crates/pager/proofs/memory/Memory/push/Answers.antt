@@ -23,12 +23,16 @@ returns-then-self-eq-SAVEPOINTS c = record {
 pub invariant_of-self : goal.invariant_of-self
 invariant_of-self c =
     let m = c.args.self.now in
-    record { few = m.few; low = omega arith; sound = ∥∥₁_map m.sound
-              (λ s. record {
-                link = s.link;
-                all = s.all;
-                below = subst (λ (n : ℕ). (d p : ℕ) → has_from (suc n) (fields m).saved d p ≡ false) (sym (add-one m.levels)) (sound_pushed (λ _. []) (fields m) m.levels s.below (omega arith));
-              }) }
+    record {
+      few = m.few;
+      low = omega arith;
+      sound = ∥∥₁_map m.sound
+          (λ s. record {
+            link = s.link;
+            all = s.all;
+            below = subst (λ (n : ℕ). (d p : ℕ) → has_from (suc n) (fields m).saved d p ≡ false) (sym (add-one m.levels)) (sound_pushed (λ _. []) (fields m) m.levels s.below (omega arith));
+          });
+    }
 
 pub returns : goal.returns
 unfolding with_sizes

@@ -28,12 +28,16 @@ invariant_of-self c =
     let is = sym c.stands.ensures ∙ c.if-not-stands.false in
     let low = leb-true 1 s (and_parts (leb 1 s) (leb s m.levels) is).0 in
     let high = leb-true s m.levels (and_parts (leb 1 s) (leb s m.levels) is).1 in
-    record { few = m.few; low = omega arith; sound = ∥∥₁_map m.sound
-              (λ old. record {
-                link = old.link;
-                all = old.all;
-                below = λ d p. ap (λ (l : List SavedPage). has_from (suc (s - 1)) l d p) c.passed_down-saved.ensures ∙ sound_released (λ _. []) (fields m) s m.levels low high old.below d p;
-              }) }
+    record {
+      few = m.few;
+      low = omega arith;
+      sound = ∥∥₁_map m.sound
+          (λ old. record {
+            link = old.link;
+            all = old.all;
+            below = λ d p. ap (λ (l : List SavedPage). has_from (suc (s - 1)) l d p) c.passed_down-saved.ensures ∙ sound_released (λ _. []) (fields m) s m.levels low high old.below d p;
+          });
+    }
 
 pub returns : goal.returns
 unfolding passed_fields

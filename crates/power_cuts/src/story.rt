@@ -155,9 +155,8 @@ fn head(rt: &HostRuntime, text: &str) -> anyhow::Result<()> {
 
 /// The set, told without a cut, with two cuts, and with a cut at each call of its commit.
 pub fn tell_set(rt: &HostRuntime) -> anyhow::Result<()> {
-    head(
-        rt,
-        "A set on a delayed card: probe, notes and trace, with a letter for each page, o old, N new",
+    println!(rt;
+        "A set on a delayed card: probe, notes and trace, with a letter for each page, o old, N new"
     )?;
     head(rt, "No cut")?;
     tell_whole(rt)?;

@@ -128,9 +128,9 @@ pub fn transact(set: &mut Set<DelayedCard<'_>>) -> Answers {
 
 /// A letter for a page: o if it is old, N if it is new, and ? else.
 fn mark(page: &[u8]) -> char {
-    if page == OLD {
+    if page == OLD.as_slice() {
         'o'
-    } else if page == NEW {
+    } else if page == NEW.as_slice() {
         'N'
     } else {
         '?'

@@ -1,6 +1,6 @@
 // Two databases from files, changed together on a delayed card that loses power in the commit: the
 // files that it left, and the databases after a recovery.
-use crate::filled::print_hex;
+use crate::hex::print_hex;
 use anyhow::anyhow;
 use card::{Card, CardFault};
 use delayed_card::DelayedCard;

@@ -1,0 +1,39 @@
+// Why a call of a transaction's memory says no.
+ghost use Rattle.std.specs.Prelude.{◌≡◌};
+ghost use Rattle.pager.specs.Refusals.{refusal_number};
+
+/// Why a call is refused; the tests go in the order of the numbers.
+#[derive(Clone, Copy, PartialEq, Eq, Debug)]
+pub enum Refusal {
+    /// There is no such database.
+    NoDatabase,
+    /// The buffer has not 512 bytes.
+    BufferLength,
+    /// The page is not allowed, or past 4,096.
+    Page,
+    /// 32 pages are changed in all, and this is not among them.
+    ChangedFull,
+    /// 32 pages are saved, and one more is needed.
+    SavedFull,
+    /// 8 savepoints stand.
+    SavepointsFull,
+    /// There is no such savepoint.
+    NoSavepoint,
+}
+
+impl Refusal {
+    /// The number by which the refusal is told.
+    pub fn number(self) -> u8
+        ensures { result ≡ refusal_number self }
+    {
+        match self {
+            Refusal::NoDatabase => 7,
+            Refusal::BufferLength => 8,
+            Refusal::Page => 9,
+            Refusal::ChangedFull => 10,
+            Refusal::SavedFull => 11,
+            Refusal::SavepointsFull => 12,
+            Refusal::NoSavepoint => 13,
+        }
+    }
+}
