@@ -1,13 +1,11 @@
 -- The journals of all databases are made: each leaves what the databases hold.
-use Rattle.std.proofs.Common.{◌≡◌, ℕ, suc, ◌+◌, ◌<◌, ◌≤◌, Bool, true, false, ◌⊎◌, List, [], ◌∷◌, ◌++◌, map, get_or, Ok, Err, Option, Result, sym, refl, ap, ◌∙◌, subst, ap₂, inl, inr, arith}
+use Rattle.std.proofs.Common.{◌≡◌, ℕ, suc, ◌+◌, ◌<◌, true, false, List, [], ◌∷◌, get_or, Ok, Err, Option, refl, ap, ◌∙◌, subst, ap₂, inl, inr}
 use Rattle.std.specs.List.{AllByRecursion}
 use Rattle.card.specs.Meaning.{Meaning, Bytes, Name}
-use Rattle.journal.specs.Format.{PageRecord}
-use Rattle.journal_writer.specs.OnCard.{store_acts}
 use Rattle.pager.specs.declared.memory.Memory.{Memory}
 use Rattle.pager.specs.Sound.{map_of}
 use Rattle.refusal.specs.declared.fault.SetFault.{SetFault}
-use Rattle.steps.specs.Tasks.{Task, tasks, acts, Went}
+use Rattle.steps.specs.Tasks.{Task, Went}
 use Rattle.steps.proofs.Held.{Spares, spared_holds, all_append}
 use Rattle.journaling.specs.Plan.{Change, for_each, journal_tasks, read_tasks}
 use Rattle.journaling.specs.Changes.{contents, recorded, is_changed, changed_list, change_of}

@@ -1,7 +1,7 @@
 -- Journals deleted one after the other, whatever each is answered.
-use Rattle.std.proofs.Common.{◌≡◌, ℕ, suc, ◌+◌, ◌<◌, ◌≤◌, Bool, true, false, List, [], ◌∷◌, ◌++◌, map, is_err, Some, None, Ok, Err, Option, Result, sym, refl, ap, ◌∙◌, subst, arith}
+use Rattle.std.proofs.Common.{◌≡◌, ℕ, suc, ◌+◌, true, false, List, [], ◌∷◌, ◌++◌, map, is_err, Some, None, Ok, Err, Option, Result, sym, refl, ap, ◌∙◌, subst, arith}
 use Rattle.card.specs.declared.fault.Cause.{Cause}
-use Rattle.card.specs.Meaning.{Meaning, Name}
+use Rattle.card.specs.Meaning.{Meaning}
 use Rattle.std.proofs.lemmas.Bool.{false≢true}
 use Rattle.card.specs.declared.fault.CardFault.{CardFault}
 use Rattle.card.specs.Calls.{Called, cause_of}

@@ -1,13 +1,13 @@
 -- Rounds through the databases: something is done for each that has a changed page, in order.
-use Rattle.std.proofs.Common.{◌≡◌, ℕ, zero, suc, ◌+◌, ◌-◌, ◌<◌, ◌≤◌, Bool, true, false, cond, ◌⊎◌, List, [], ◌∷◌, ◌++◌, map, length, Ok, Err, Result, sym, refl, ap, ◌∙◌, subst, ap₂, inl, inr, arith}
+use Rattle.std.proofs.Common.{◌≡◌, ℕ, zero, suc, ◌+◌, ◌<◌, ◌≤◌, true, false, cond, ◌⊎◌, List, [], ◌∷◌, ◌++◌, map, Ok, Err, sym, refl, ap, ◌∙◌, subst, inl, inr, arith}
 use Rattle.std.proofs.lemmas.Bool.{cond-true, cond-false, cases_lt}
 use Rattle.std.proofs.lemmas.List.{append-nil}
-use Rattle.card.specs.Meaning.{Meaning, Bytes, Name}
+use Rattle.card.specs.Meaning.{Meaning}
 use Rattle.pager.specs.declared.memory.Memory.{Memory}
 use Rattle.refusal.specs.declared.fault.SetFault.{SetFault}
 use Rattle.steps.specs.Tasks.{Task, Went}
 use Rattle.steps.proofs.Went.{went_end, went_then, went_stop, append_assoc}
-use Rattle.journaling.specs.Plan.{Change, for_each}
+use Rattle.journaling.specs.Plan.{for_each}
 use Rattle.journaling.specs.Changes.{is_changed, changed_list}
 
 pub each_append : {A : Type 0} (f : A → List Task) (xs ys : List A) → for_each f (xs ++ ys) ≡ for_each f xs ++ for_each f ys

@@ -1,13 +1,12 @@
 -- Each row of the table holds.
-use Rattle.std.proofs.Common.{◌≡◌, ℕ, zero, suc, ◌+◌, ◌<◌, max, true, false, cond, not, ◌&&◌, eqb, ltb, leb, List, [], ◌∷◌, length, get_or, replicate, Some, None, sym, refl, ap, ◌∙◌, arith}
-use Rattle.std.proofs.lemmas.Bool.{both_ways, cond-true, cond-false, ne_eqb, lt-ltb, le-leb, and_from, and_left, and_right}
+use Rattle.std.proofs.Common.{◌≡◌, ℕ, ◌+◌, ◌<◌, false, not, ◌&&◌, eqb, ltb, leb, [], ◌∷◌, length, get_or, Some, None, refl, ◌∙◌, arith}
+use Rattle.std.proofs.lemmas.Bool.{cond-true, cond-false, ne_eqb, lt-ltb, le-leb, and_from, and_left, and_right}
 use Rattle.card.specs.Meaning.{Bytes}
-use Rattle.journal.specs.Format.{Journal, LawfulJournal, Ascending, checksum, encode, header, record_bytes, records_bytes, super_bytes, total}
-use Rattle.journal.specs.Judged.{Judged, spent, readable, header_right, length_right, WrongAt}
+use Rattle.journal.specs.Format.{LawfulJournal, Ascending, encode, header, record_bytes, records_bytes, super_bytes, total}
+use Rattle.journal.specs.Judged.{spent, readable, header_right, length_right}
 use Rattle.super_journal.specs.Super.{super_journal_bytes}
-use Rattle.journal.specs.Laws.{JournalLaws, Quiet}
-use Rattle.journal.specs.declared.verdict.Verdict.{Verdict}
-use Rattle.journal.specs.declared.verdict.Verdict.TheVariants.{Spent, Damaged, Sound}
+use Rattle.journal.specs.Laws.{Quiet}
+use Rattle.journal.specs.declared.verdict.Verdict.TheVariants.{Damaged}
 use Rattle.journal.proofs.Laws.{journal_laws}
 use Rattle.journal.proofs.Verdicts.{unreadable as unreadable_damaged}
 use Rattle.pager.specs.declared.refusal.Refusal.TheVariants.{Page}

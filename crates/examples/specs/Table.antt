@@ -1,7 +1,7 @@
 -- Worked examples. Each row is a value that the definitions must give.
-use Rattle.std.specs.Prelude.{◌≡◌, ℕ, ◌<◌, Bool, true, false, List, [], ◌∷◌, ◌++◌, length, replicate, Some, None, Option, ◌≢◌, slice_index}
+use Rattle.std.specs.Prelude.{◌≡◌, ℕ, ◌<◌, Bool, true, false, [], ◌∷◌, length, replicate, Some, None, ◌≢◌, slice_index}
 use Rattle.card.specs.Meaning.{Bytes, Name}
-use Rattle.journal.specs.Format.{Journal, LawfulJournal, PageRecord, checksum, encode, full, super_bytes, magic}
+use Rattle.journal.specs.Format.{Journal, LawfulJournal, checksum, encode, full, super_bytes, magic}
 use Rattle.journal.specs.Judged.{Judged}
 use Rattle.super_journal.specs.Super.{super_journal_bytes}
 use Rattle.journal.specs.declared.verdict.Verdict.{Verdict}

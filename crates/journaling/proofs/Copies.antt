@@ -1,9 +1,9 @@
 -- A page read from a file into the middle of a buffer.
-use Rattle.std.proofs.Common.{◌≡◌, ℕ, ◌+◌, ◌-◌, ◌*◌, ◌<◌, ◌≤◌, List, [], ◌∷◌, ◌++◌, length, take, drop, Some, None, Ok, Err, Option, Result, sym, refl, ap, ◌∙◌, subst, arith}
+use Rattle.std.proofs.Common.{◌≡◌, ℕ, ◌+◌, ◌≤◌, [], ◌∷◌, ◌++◌, length, take, drop, Some, None, Ok, Err, Option, Result, sym, refl, ap, ◌∙◌, subst}
 use borrow.Rule.Slice.PartMut.{put_mid}
 use Rattle.std.proofs.lemmas.List.{take-append-drop}
 use Rattle.card.specs.Meaning.{Meaning, Bytes, Name}
-use Rattle.card.specs.Calls.{Op, read, Worked, overwrite, part, part_of, tested, name_ok}
+use Rattle.card.specs.Calls.{read, Worked, overwrite, part, part_of, tested, name_ok}
 use Rattle.card.specs.Runs.{Act, through, Runs, end, next}
 use Rattle.card.proofs.Every.{not_lawful_absent}
 use Rattle.card.proofs.Tested.{lawful_read}
@@ -11,7 +11,7 @@ use Rattle.journal.specs.Judged.{record_place}
 use Rattle.journal.proofs.Pieces.{put_overwrite, length_part}
 use Rattle.refusal.specs.declared.fault.SetFault.{SetFault}
 use Rattle.steps.specs.declared.site.Site.{Site}
-use Rattle.steps.specs.Tasks.{Task, task, Went, ToldBytes}
+use Rattle.steps.specs.Tasks.{task, Went, ToldBytes}
 use Rattle.journaling.specs.Plan.{place}
 use Rattle.journaling.specs.Changes.{contents}
 use Rattle.journaling.specs.Buffers.{Copied}

@@ -1,12 +1,12 @@
 -- A journal that is filled for a commit is never refused: its pages are lawful, and the buffer has room.
-use Rattle.std.proofs.Common.{◌≡◌, ℕ, zero, suc, ◌+◌, ◌-◌, ◌<◌, ◌≤◌, Bool, true, false, cond, ◌&&◌, eqb, ltb, leb, ◌⊎◌, List, [], ◌∷◌, ◌++◌, length, get_or, Some, None, Ok, Err, Option, Result, sym, refl, ap, ◌∙◌, subst, ap₂, inl, inr, arith, Bor}
-use Rattle.std.proofs.lemmas.Bool.{and_from, and_parts, both_ways, le-leb, lt-ltb, leb-true, ltb-true, cond-true, cond-false, cases_Bool}
+use Rattle.std.proofs.Common.{◌≡◌, ℕ, zero, suc, ◌+◌, ◌-◌, ◌≤◌, Bool, true, false, cond, ◌&&◌, ltb, leb, List, [], ◌∷◌, length, Some, None, Err, Option, sym, refl, ap, ◌∙◌, arith, Bor}
+use Rattle.std.proofs.lemmas.Bool.{and_from, and_parts, both_ways, le-leb, lt-ltb, leb-true, ltb-true, cond-true, cond-false}
 use Rattle.card.specs.Meaning.{Bytes, Name}
 use Rattle.journal.specs.Format.{super_bytes}
 use Rattle.journal.proofs.Encoded.{length_super}
 use Rattle.journal_writer.specs.declared.writer.Refusal.{Refusal}
 use Rattle.journal_writer.specs.declared.writer.Refusal.TheVariants.{Limit, Room}
-use Rattle.journal_writer.specs.Written.{Filled, pages_lawful, made_lawful, given_lawful, ascend, told}
+use Rattle.journal_writer.specs.Written.{Filled, pages_lawful, given_lawful, ascend, told}
 use Rattle.page_map.specs.Sets.{PageSet, counted}
 use Rattle.page_map.specs.Listed.{above}
 use Rattle.journaling.specs.Plan.{super_of}

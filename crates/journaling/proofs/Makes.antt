@@ -1,14 +1,14 @@
 -- A journal is made: created, read, filled and stored, one after the other.
-use Rattle.std.proofs.Common.{◌≡◌, ℕ, ◌+◌, ◌-◌, ◌<◌, ◌≤◌, List, [], ◌∷◌, ◌++◌, map, length, get_or, take, Ok, Err, Option, Result, sym, refl, ap, ◌∙◌, subst, ap₂, arith}
+use Rattle.std.proofs.Common.{◌≡◌, ℕ, ◌+◌, ◌-◌, List, [], ◌∷◌, ◌++◌, map, length, take, Ok, Err, Option, Result, sym, ap, ◌∙◌, subst, ap₂, arith}
 use Rattle.std.proofs.lemmas.List.{take_at}
 use Rattle.card.specs.Meaning.{Meaning, Bytes, Name}
-use Rattle.card.specs.Calls.{create, overwrite}
-use Rattle.journal.specs.Format.{PageRecord, Journal, encode}
+use Rattle.card.specs.Calls.{create}
+use Rattle.journal.specs.Format.{PageRecord, encode}
 use Rattle.journal_writer.specs.OnCard.{store_acts}
 use Rattle.journal_writer.specs.Written.{Filled, originals, journal_in}
 use Rattle.refusal.specs.declared.fault.SetFault.{SetFault}
 use Rattle.refusal.specs.declared.step.Step.TheVariants.{C2}
-use Rattle.steps.specs.Tasks.{Task, task, tasks, Went}
+use Rattle.steps.specs.Tasks.{Task, tasks, Went}
 use Rattle.steps.proofs.Went.{went_then, went_stop}
 use Rattle.journaling.specs.Plan.{Change, original, journal_of, read_tasks, at, call, journal_tasks}
 use Rattle.journaling.specs.Changes.{contents}

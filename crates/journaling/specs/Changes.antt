@@ -1,6 +1,6 @@
 -- The databases that a commit changes, by what the memory of the transaction holds and what the files hold.
-use Rattle.std.specs.Prelude.{ℕ, zero, suc, ◌+◌, ◌-◌, Bool, cond, ◌&&◌, List, [], ◌∷◌, ◌++◌, map, Some, None, Option, nat_le, nat_lt, slice_index}
-use Rattle.card.specs.Meaning.{Bytes, Name}
+use Rattle.std.specs.Prelude.{ℕ, zero, suc, ◌-◌, Bool, cond, ◌&&◌, List, [], ◌∷◌, ◌++◌, map, Some, None, Option, nat_le, nat_lt, slice_index}
+use Rattle.card.specs.Meaning.{Bytes}
 use Rattle.journal.specs.Format.{PageRecord}
 use Rattle.pager.specs.declared.memory.Memory.{Memory}
 use Rattle.page_map.specs.Sets.{PageSet, counted}

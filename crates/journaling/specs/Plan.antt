@@ -8,7 +8,7 @@ use Rattle.journal.specs.Format.{PageRecord, Journal, encode}
 use Rattle.super_journal.specs.Super.{super_journal_bytes}
 use Rattle.journal_writer.specs.OnCard.{store_acts}
 use Rattle.refusal.specs.declared.step.Step.{Step}
-use Rattle.refusal.specs.declared.step.Step.TheVariants.{C1, C2, C3, C4, C5, R1, R2, R3, R4}
+use Rattle.refusal.specs.declared.step.Step.TheVariants.{C1, C2, C3, C4}
 use Rattle.steps.specs.declared.site.Site.{Site}
 use Rattle.steps.specs.Tasks.{Task, task, tasks}
 

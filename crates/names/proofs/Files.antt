@@ -1,8 +1,8 @@
 -- The names of files, by their numbers.
-use Rattle.std.proofs.Common.{◌≡◌, ℕ, ◌+◌, ◌-◌, ◌<◌, ◌≤◌, Bool, true, false, cond, ◌&&◌, ◌||◌, eqb, ltb, leb, ◌⊎◌, List, [], ◌++◌, length, sym, refl, ap, ◌∙◌, subst, ap₂, inl, inr, ⊎_elim, arith, length-append}
+use Rattle.std.proofs.Common.{◌≡◌, ℕ, ◌+◌, ◌-◌, ◌<◌, ◌≤◌, Bool, true, false, cond, ◌&&◌, ◌||◌, eqb, ltb, leb, ◌⊎◌, List, [], ◌++◌, length, sym, refl, ap, ◌∙◌, ap₂, inl, inr, ⊎_elim, arith, length-append}
 use mathlib.Core.Logic.{∥∥₁_elim}
 use Rattle.std.proofs.lemmas.Bool.{cases_lt, le-leb, lt-ltb, le-ltb, ltb-true, leb-true, eqb-true, or_cases, and_parts, cond-true, cond-false}
-use Rattle.names.specs.Names.{Bytes, is_file, file_name, name_at, named, journal_ending, super_ending, Alike, Apart}
+use Rattle.names.specs.Names.{Bytes, is_file, file_name, name_at, named, journal_ending, super_ending, Apart}
 
 -- a file of a list of n databases is one of them, a journal of one of them, or the super-journal
 pub ways : (n k : ℕ) → is_file n k ≡ true → (k < n) ⊎ (((4 ≤ k) × (k < 4 + n)) ⊎ (k ≡ 8))

@@ -1,5 +1,5 @@
 -- Names in rows of 24 bytes.
-use Rattle.std.proofs.Common.{◌≡◌, ℕ, ◌+◌, ◌-◌, ◌<◌, ◌≤◌, Bool, true, ◌≢◌, ◌⊎◌, List, [], ◌++◌, length, get_or, take, set, sym, ap, ◌∙◌, subst, ap₂, inl, inr, zero-add, arith, below_more}
+use Rattle.std.proofs.Common.{◌≡◌, ℕ, ◌+◌, ◌-◌, ◌<◌, ◌≤◌, true, ◌≢◌, ◌⊎◌, List, [], ◌++◌, length, get_or, take, set, sym, ap, ◌∙◌, ap₂, inl, inr, zero-add, arith, below_more}
 use native.Mathlib.Nat.{sub-zero}
 use Rattle.std.proofs.lemmas.List.{get_or-set_same, get_or-set_other, length-set}
 use Rattle.std.proofs.lemmas.Bool.{leb-true, and_parts, cases_lt}

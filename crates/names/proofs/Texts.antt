@@ -1,5 +1,5 @@
 -- Lists of references and what they refer to.
-use Rattle.std.proofs.Common.{◌≡◌, ℕ, zero, suc, ◌<◌, ◌≤◌, leb, List, [], ◌∷◌, length, get_or, sym, refl, ap, subst, arith, Bor}
+use Rattle.std.proofs.Common.{◌≡◌, ℕ, zero, suc, ◌<◌, ◌≤◌, List, [], ◌∷◌, length, get_or, refl, ap, subst, arith, Bor}
 use Rattle.std.proofs.lemmas.Bool.{leb-true, and_parts}
 use Rattle.names.specs.Names.{Bytes, texts, listed, length_ok}
 use Rattle.names.specs.Refused.{Each}

@@ -1,7 +1,6 @@
 -- What the invariant of a memory tells a caller of the changed pages: a database has at most 32, and
 -- each of them is a page that a database can have.
-use Rattle.std.proofs.Common.{◌≡◌, ℕ, zero, suc, ◌+◌, ◌<◌, ◌≤◌, Bool, true, false, cond, ◌&&◌, eqb, leb, ◌⊎◌, List, [], ◌∷◌, length, take, is_some, Some, None, sym, refl, ap, ◌∙◌, ap₂, inl, inr, arith, length-take}
-use mathlib.Core.Bool.{Bool-set}
+use Rattle.std.proofs.Common.{◌≡◌, ℕ, suc, ◌+◌, ◌<◌, ◌≤◌, true, false, cond, eqb, leb, ◌⊎◌, List, [], ◌∷◌, length, is_some, sym, refl, ap, ◌∙◌, ap₂, inl, inr, arith, length-take}
 use native.Mathlib.Decide.{ℕ_discrete, dec_lt}
 use Rattle.std.proofs.lemmas.Bool.{cases_Bool, cond-true, cond-false, eqb-true, eq-eqb, ne_eqb, leb-true, and_parts, and_left, and_right, both_ways}
 use Rattle.page_map.specs.Sets.{PageSet, is_page, without, including, counted, total}
@@ -9,7 +8,7 @@ use Rattle.page_map.proofs.Totals.{total_with, total_free, total_part}
 use Rattle.pager.specs.declared.memory.Memory.{Memory}
 use Rattle.pager.specs.declared.changed_page.ChangedPage.{ChangedPage}
 use Rattle.pager.specs.Changed.{look, is_row}
-use Rattle.pager.specs.Sound.{Sound, map_of}
+use Rattle.pager.specs.Sound.{map_of}
 use Rattle.pager.specs.View.{fields}
 use Rattle.pager.proofs.Keeps.{linked, in_all}
 

@@ -1,22 +1,19 @@
 -- A memory in which nothing is changed is the machine at its start.
-use Rattle.std.proofs.Common.{◌≡◌, ℕ, zero, suc, ◌+◌, ◌-◌, ◌*◌, ◌%◌, ◌<◌, ◌≤◌, Bool, true, false, ◌⊎◌, List, [], ◌∷◌, ◌++◌, length, get_or, take, drop, replicate, is_some, sym, refl, ap, ◌∙◌, subst, ap₂, inl, inr, arith, length-drop, take-add}
+use Rattle.std.proofs.Common.{◌≡◌, ℕ, zero, suc, ◌+◌, ◌-◌, ◌*◌, ◌%◌, ◌<◌, ◌≤◌, false, ◌⊎◌, List, [], ◌++◌, length, get_or, take, drop, replicate, sym, refl, ap, ◌∙◌, ap₂, inl, inr, arith, length-drop, take-add}
 use mathlib.Core.Path.{fun_ext}
 use Rattle.std.proofs.lemmas.List.{take_all, take-append-le, get_or-replicate, get_or_past, length-replicate}
 use Rattle.std.proofs.lemmas.Bool.{cases_lt}
 use Rattle.card.specs.Meaning.{Bytes}
 use Rattle.page_map.specs.declared.PageMap.{PageMap}
-use Rattle.pager.specs.declared.changed_page.ChangedPage.{ChangedPage}
-use Rattle.pager.specs.declared.saved_page.SavedPage.{SavedPage}
-use Rattle.page_map.specs.Words.{pages_of, digit, bit}
+use Rattle.page_map.specs.Words.{pages_of, digit}
 use Rattle.pager.specs.Changed.{look}
 use Rattle.pager.specs.Saved.{has_from}
 use Rattle.pager.specs.Sound.{Sound, map_of}
-use Rattle.pager.specs.Machine.{Machine, no_pages, cleared}
-use Rattle.pager.specs.View.{Fields, file_page, joined, page_now, held_now, stack, Stored}
+use Rattle.pager.specs.Machine.{no_pages}
+use Rattle.pager.specs.View.{file_page, joined, held_now, Stored}
 use Rattle.page_map.proofs.Digits.{bit_zero}
 use Rattle.page_map.proofs.Totals.{total_none}
 use Rattle.page_map.proofs.Members.{page_none, page_out}
-use Rattle.pager.proofs.Pages.{joined_same}
 
 -- a file is its pages, one after the other
 file_joined : (file : Bytes) (n : ℕ) → n * 512 ≤ length file → joined n (file_page file) ≡ take (n * 512) file

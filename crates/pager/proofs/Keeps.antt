@@ -1,12 +1,11 @@
 -- What a write does to the fields, and that the fields stay sound.
-use Rattle.std.proofs.Common.{◌≡◌, ℕ, zero, suc, ◌+◌, ◌-◌, ◌<◌, ◌≤◌, max, Bool, true, false, cond, not, ◌&&◌, ◌||◌, eqb, ltb, leb, ◌≢◌, ◌⊎◌, List, [], ◌∷◌, ◌++◌, length, get_or, take, set, is_some, Some, None, Option, sym, refl, ap, ◌∙◌, subst, ap₂, inl, inr, arith}
-use mathlib.Core.Path.{fun_ext}
+use Rattle.std.proofs.Common.{◌≡◌, ℕ, zero, suc, ◌+◌, ◌<◌, ◌≤◌, max, Bool, true, false, cond, not, ◌&&◌, ◌||◌, eqb, ltb, leb, ◌⊎◌, List, [], ◌∷◌, ◌++◌, length, get_or, take, set, is_some, Some, None, Option, sym, refl, ap, ◌∙◌, ap₂, inl, inr, arith}
 use mathlib.Core.Bool.{Bool-set}
 use mathlib.Core.Logic.{∥∥₁_elim}
 use native.Mathlib.Nat.{ℕ_set}
 use native.Mathlib.Decide.{ℕ_discrete}
 use Rattle.std.proofs.lemmas.List.{get_or-set_same, get_or-set_other}
-use Rattle.std.proofs.lemmas.Bool.{cases_Bool, cond-true, cond-false, eqb-true, eq-eqb, ne_eqb, lt-leb, leb-true, leb-false, ltb-true, and_parts, and_from, and_cases, and_left, and_right, not-false, not_from_true, both_ways}
+use Rattle.std.proofs.lemmas.Bool.{cases_Bool, cond-true, cond-false, eqb-true, eq-eqb, ne_eqb, lt-leb, leb-true, leb-false, ltb-true, and_parts, and_from, and_cases, and_left, and_right, not-false, both_ways}
 use Rattle.card.specs.Meaning.{Bytes}
 use Rattle.pager.specs.declared.memory.Memory.{Memory}
 use Rattle.page_map.specs.declared.PageMap.{PageMap}
@@ -18,7 +17,7 @@ use Rattle.pager.specs.declared.refusal.Refusal.{Refusal}
 use Rattle.pager.specs.declared.refusal.Refusal.TheVariants.{NoDatabase, BufferLength, Page, ChangedFull, SavedFull}
 use Rattle.page_map.specs.Sets.{PageSet, including, is_page, total}
 use Rattle.page_map.specs.Words.{pages_of}
-use Rattle.pager.specs.Changed.{look, no_row, Whole, is_row}
+use Rattle.pager.specs.Changed.{look, Whole, is_row}
 use Rattle.pager.specs.Saved.{is_saved, has, has_from}
 use Rattle.pager.specs.Sound.{Sound, map_of}
 use Rattle.pager.specs.View.{Fields, fields, page_allowed, to_save, write_refusal, was_of, saved_first}

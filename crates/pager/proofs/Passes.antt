@@ -1,7 +1,7 @@
 -- The saved pages after a release: what each lower savepoint saved, and what a page was at each.
-use Rattle.std.proofs.Common.{◌≡◌, ℕ, zero, suc, ◌+◌, ◌-◌, ◌<◌, ◌≤◌, min, Bool, true, false, cond, not, ◌&&◌, ◌||◌, eqb, leb, ◌⊎◌, List, [], ◌∷◌, ◌++◌, is_some, Some, None, Option, sym, refl, ap, ◌∙◌, subst, ap₂, inl, inr, arith}
+use Rattle.std.proofs.Common.{◌≡◌, ℕ, suc, ◌-◌, ◌<◌, ◌≤◌, min, Bool, true, false, cond, ◌&&◌, ◌||◌, eqb, leb, ◌⊎◌, List, [], ◌∷◌, is_some, Some, None, Option, sym, refl, ap, ◌∙◌, ap₂, inl, inr, arith}
 use native.Mathlib.Decide.{ℕ_discrete, dec_lt}
-use Rattle.std.proofs.lemmas.Bool.{cases_Bool, cond-true, cond-false, eqb-true, eq-eqb, ne_eqb, le-leb, lt-leb, leb-true, leb-false, and_parts, and_from, and_left, and_right, or_left, or_right, or_parts, both_ways}
+use Rattle.std.proofs.lemmas.Bool.{cases_Bool, cond-true, cond-false, eqb-true, eq-eqb, ne_eqb, le-leb, lt-leb, leb-true, leb-false, and_parts, and_left, or_left, or_right, or_parts, both_ways}
 use Rattle.pager.specs.declared.saved_page.SavedPage.{SavedPage}
 use Rattle.pager.specs.declared.saved_page.Was.{Was}
 use Rattle.pager.specs.Saved.{is_saved, has, has_from, first, passed, added, gathered}

@@ -1,10 +1,9 @@
 -- The store of saved pages: rows at its end, and rows passed down by a release.
-use Rattle.std.proofs.Common.{◌≡◌, ℕ, zero, suc, ◌+◌, ◌-◌, ◌<◌, ◌≤◌, min, Bool, true, false, cond, ◌&&◌, ◌||◌, eqb, leb, ◌⊎◌, List, [], ◌∷◌, ◌++◌, length, get_or, take, Some, None, Option, sym, refl, ap, ◌∙◌, subst, ap₂, inl, inr, arith}
-use Rattle.std.proofs.lemmas.Bool.{cases_Bool, cond-true, cond-false, eqb-true, eq-eqb, ne_eqb, le-leb, lt-leb, leb-true, leb-false, and_parts, and_from, or_left, or_right, both_ways}
+use Rattle.std.proofs.Common.{◌≡◌, ℕ, zero, suc, ◌<◌, Bool, true, false, ◌&&◌, ◌||◌, eqb, List, [], ◌∷◌, ◌++◌, length, get_or, take, refl, arith}
+use Rattle.std.proofs.lemmas.Bool.{or_left, or_right}
 use Rattle.pager.specs.declared.saved_page.SavedPage.{SavedPage}
-use Rattle.pager.specs.declared.saved_page.Was.{Was}
 use Rattle.pager.specs.declared.saved_page.Was.TheVariants.{Changed}
-use Rattle.pager.specs.Saved.{is_saved, has, has_from, first, passed, added, gathered}
+use Rattle.pager.specs.Saved.{is_saved, has, passed, added, gathered}
 
 abbrev pub no_saved : SavedPage
 no_saved = record { level = 0; database = 0; page = 0; was = Changed [] }

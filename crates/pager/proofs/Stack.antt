@@ -1,8 +1,7 @@
 -- What the savepoints of a stack hold, over the steps of the machine.
-use Rattle.std.proofs.Common.{◌≡◌, ℕ, zero, suc, ◌+◌, ◌-◌, ◌<◌, ◌≤◌, List, [], ◌∷◌, map, length, take, drop, sym, refl, ap, ◌∙◌, subst, arith}
-use Rattle.std.proofs.lemmas.List.{length-map, length-drop, drop-map, drop-drop, drop_all, drop_more}
-use Rattle.card.specs.Meaning.{Bytes}
-use Rattle.pager.specs.Machine.{Held, Savepoint, Machine, saving, pass_down, restored, written, pushed, released, back, put, no_pages}
+use Rattle.std.proofs.Common.{◌≡◌, ℕ, suc, ◌+◌, ◌-◌, ◌<◌, ◌≤◌, List, [], ◌∷◌, map, length, take, drop, sym, refl, ap, ◌∙◌, subst, arith}
+use Rattle.std.proofs.lemmas.List.{length-map, length-drop, drop-map, drop-drop}
+use Rattle.pager.specs.Machine.{Held, Savepoint, Machine, saving, pass_down, restored, written, pushed, released, back}
 use Rattle.pager.specs.Laws.{Onward, here, write, push, release, step_back, BackLaw, ReleaseLaw}
 
 -- what each savepoint holds, the top one first

@@ -1,14 +1,13 @@
 -- A savepoint pushed, and savepoints released, as steps of the machine that the memory is.
-use Rattle.std.proofs.Common.{◌≡◌, ℕ, zero, suc, ◌+◌, ◌-◌, ◌<◌, ◌≤◌, Bool, true, false, cond, ◌&&◌, ◌||◌, ◌≢◌, List, [], ◌∷◌, length, get_or, take, drop, set, Some, None, Option, sym, refl, ap, ◌∙◌, subst, ap₂, arith}
+use Rattle.std.proofs.Common.{◌≡◌, ℕ, zero, suc, ◌+◌, ◌-◌, ◌<◌, ◌≤◌, Bool, true, false, ◌||◌, ◌≢◌, List, [], ◌∷◌, length, get_or, take, drop, set, None, Option, sym, refl, ap, ◌∙◌, arith}
 use mathlib.Core.Path.{fun_ext}
 use Rattle.std.proofs.lemmas.List.{get_or-set_same, get_or-set_other}
 use Rattle.std.proofs.lemmas.Bool.{or_parts}
 use Rattle.card.specs.Meaning.{Bytes}
-use Rattle.pager.specs.declared.saved_page.SavedPage.{SavedPage}
 use Rattle.pager.specs.declared.saved_page.Was.{Was}
 use Rattle.pager.specs.Saved.{has, has_from, first, gathered}
-use Rattle.pager.specs.Sound.{Sound, map_of}
-use Rattle.pager.specs.Machine.{Held, Savepoint, saved_by, pass_down, no_pages}
+use Rattle.pager.specs.Sound.{map_of}
+use Rattle.pager.specs.Machine.{saved_by, pass_down, no_pages}
 use Rattle.pager.specs.View.{Fields, file_page, joined, was_page, was_changed, page_now, held_now, held_at, stack}
 use Rattle.pager.proofs.Pages.{joined_same}
 use Rattle.pager.proofs.Views.{or_first}

@@ -1,8 +1,8 @@
 -- A write of a page, as a step of the machine that the memory is.
-use Rattle.std.proofs.Common.{◌≡◌, ℕ, zero, suc, ◌+◌, ◌-◌, ◌<◌, ◌≤◌, max, Bool, true, false, cond, not, ◌&&◌, ◌||◌, eqb, leb, ◌⊎◌, List, [], ◌∷◌, ◌++◌, length, get_or, is_some, Some, None, Option, sym, refl, ap, ◌∙◌, subst, ap₂, inl, inr, arith}
+use Rattle.std.proofs.Common.{◌≡◌, ℕ, zero, suc, ◌+◌, ◌-◌, ◌<◌, ◌≤◌, max, Bool, true, false, cond, ◌&&◌, ◌||◌, eqb, leb, ◌⊎◌, List, [], ◌∷◌, ◌++◌, length, get_or, is_some, Some, None, Option, sym, refl, ap, ◌∙◌, subst, ap₂, inl, inr, arith}
 use mathlib.Core.Path.{fun_ext}
 use native.Mathlib.Decide.{ℕ_discrete}
-use Rattle.std.proofs.lemmas.Bool.{cases_Bool, cond-true, cond-false, eqb-true, eq-eqb, ne_eqb, le-leb, leb-true, and_parts, and_from, and_left, and_right, or_left, or_right, both_ways}
+use Rattle.std.proofs.lemmas.Bool.{cases_Bool, cond-true, cond-false, eqb-true, eq-eqb, ne_eqb, le-leb, and_parts, and_from, and_left, and_right, or_right, both_ways}
 use Rattle.card.specs.Meaning.{Bytes}
 use Rattle.pager.specs.declared.saved_page.SavedPage.{SavedPage}
 use Rattle.pager.specs.declared.saved_page.Was.{Was}
@@ -11,7 +11,7 @@ use Rattle.page_map.specs.Sets.{PageSet, including}
 use Rattle.pager.specs.Changed.{look}
 use Rattle.pager.specs.Saved.{is_saved, has, first}
 use Rattle.pager.specs.Sound.{map_of}
-use Rattle.pager.specs.Machine.{Held, Savepoint, Machine, at, put, put_page, saving}
+use Rattle.pager.specs.Machine.{at, put, put_page, saving}
 use Rattle.pager.specs.View.{Fields, file_page, joined, or_file, was_page, was_changed, was_of, page_now, held_now, held_at, stack}
 use Rattle.pager.proofs.Saves.{saves, has_end}
 use Rattle.pager.proofs.Pages.{length_file_page, joined_same, put_joined, paged}

@@ -2,7 +2,7 @@
 -- standing; the step back to it then restores what was held at its making.
 use Rattle.std.specs.Prelude.{◌≡◌, ℕ, suc, ◌+◌, ◌-◌, ◌<◌, ◌≤◌, map, length, drop}
 use Rattle.card.specs.Meaning.{Bytes}
-use Rattle.pager.specs.Machine.{Machine, Savepoint, Held, written, pushed, released, back}
+use Rattle.pager.specs.Machine.{Machine, written, pushed, released, back}
 
 -- steps from one machine to another, in which savepoint s stands throughout
 pub data Onward (s : ℕ) : Machine → Machine → Type 0 where

@@ -1,7 +1,7 @@
 -- The machine of a transaction: what each database holds now and which of its pages are changed, and
 -- a stack of savepoints, each with what was held and changed at its making and a set of saved pages.
 -- Databases go by number, from 0; pages and savepoints go by number, from 1.
-use Rattle.std.specs.Prelude.{ℕ, ◌+◌, ◌-◌, ◌*◌, ◌/◌, Bool, true, false, cond, ◌||◌, List, [], ◌∷◌, length, take, drop, ◌==◌}
+use Rattle.std.specs.Prelude.{ℕ, ◌+◌, ◌-◌, ◌*◌, ◌/◌, false, cond, ◌||◌, List, [], ◌∷◌, length, take, drop, ◌==◌}
 use Rattle.card.specs.Meaning.{Bytes}
 use Rattle.card.specs.Calls.{overwrite}
 use Rattle.page_map.specs.Sets.{PageSet, including}

@@ -9,7 +9,7 @@ use Rattle.pager.specs.declared.saved_page.Was.TheVariants.{Changed, Unchanged, 
 use Rattle.pager.specs.declared.refusal.Refusal.{Refusal}
 use Rattle.pager.specs.declared.refusal.Refusal.TheVariants.{NoDatabase, BufferLength, Page, ChangedFull, SavedFull}
 use Rattle.page_map.specs.declared.PageMap.{PageMap}
-use Rattle.page_map.specs.Sets.{PageSet, total}
+use Rattle.page_map.specs.Sets.{total}
 use Rattle.pager.specs.Changed.{look}
 use Rattle.pager.specs.Saved.{has, first}
 use Rattle.pager.specs.Sound.{map_of}

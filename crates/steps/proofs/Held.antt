@@ -1,10 +1,10 @@
 -- What files hold after a run that came through: what they held, if no act is on them, or if all acts only look.
-use Rattle.std.proofs.Common.{◌≡◌, ℕ, ◌⊎◌, List, [], ◌∷◌, ◌++◌, Some, None, Option, sym, refl, ap, ◌∙◌, subst, inl, inr, arith}
+use Rattle.std.proofs.Common.{◌≡◌, ℕ, ◌⊎◌, List, [], ◌∷◌, ◌++◌, Option, sym, refl, ap, ◌∙◌, inl, inr, arith}
 use native.Mathlib.Decide.{ℕ_discrete}
 use Rattle.std.specs.List.{AllByRecursion}
 use Rattle.card.specs.Meaning.{Meaning, Bytes, Name}
 use Rattle.card.specs.Calls.{Op, length_of, read, create, write, set_length, sync, delete, Worked, worked}
-use Rattle.card.specs.Runs.{Act, End, through, stopped, Runs, end, next, stop}
+use Rattle.card.specs.Runs.{Act, through, Runs, end, next}
 use Rattle.card.specs.Crash.{Leaves}
 use Rattle.steps.specs.Tasks.{Task, acts, Looks}
 

@@ -1,17 +1,16 @@
 -- Tasks one after the other: lists done in order make up a longer list, and a refusal in a part is a
 -- refusal in the whole.
-use Rattle.std.proofs.Common.{◌≡◌, ℕ, List, [], ◌∷◌, ◌++◌, map, Some, None, Ok, Err, Option, Result, sym, refl, ap, ◌∙◌, subst}
-use Rattle.std.proofs.lemmas.List.{append-nil}
+use Rattle.std.proofs.Common.{◌≡◌, ℕ, List, [], ◌∷◌, ◌++◌, Ok, Err, Option, Result, sym, refl, ap, ◌∙◌, subst}
 use Rattle.card.specs.declared.fault.Cause.{Cause}
 use Rattle.card.specs.declared.fault.CardFault.{CardFault}
 use Rattle.card.specs.Meaning.{Meaning, Bytes, Name}
-use Rattle.card.specs.Calls.{Op, Answered, Called, call_of, ToldLength as CardLength, ToldBytes as CardBytes}
+use Rattle.card.specs.Calls.{Op, Answered, ToldLength as CardLength, ToldBytes as CardBytes}
 use Rattle.card.specs.Runs.{Act, End, through, stopped, Runs, end, next, stop}
 use Rattle.journal.specs.declared.fault.JournalFault.{JournalFault}
-use Rattle.journal.specs.OnCard.{Acted, Ran}
+use Rattle.journal.specs.OnCard.{Acted}
 use Rattle.refusal.specs.declared.fault.SetFault.{SetFault}
 use Rattle.steps.specs.declared.site.Site.{Site}
-use Rattle.steps.specs.Tasks.{Task, task, tasks, acts, told_journal, told_card, Tells, Stopped, Ended, Went, ToldLength, ToldBytes}
+use Rattle.steps.specs.Tasks.{Task, task, tasks, acts, told_journal, told_card, Stopped, Went, ToldLength, ToldBytes}
 
 module _ {C : Type 0} (m : Meaning C) where
   -- runs one after the other

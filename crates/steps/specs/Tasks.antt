@@ -1,6 +1,6 @@
 -- The card calls of a commit or a recovery: a task is a call and where it stands. A list of tasks is
 -- done in order up to the first that the card refuses, and the fault then tells that task.
-use Rattle.std.specs.Prelude.{◌≡◌, ℕ, List, [], ◌∷◌, ◌++◌, map, length, Some, None, Ok, Err, Option, Result}
+use Rattle.std.specs.Prelude.{◌≡◌, ℕ, List, ◌∷◌, ◌++◌, map, length, Some, Ok, Err, Option, Result}
 use Rattle.card.specs.declared.fault.Cause.{Cause}
 use Rattle.card.specs.declared.fault.CardFault.{CardFault}
 use Rattle.card.specs.Meaning.{Meaning, Bytes, Name}
@@ -8,7 +8,6 @@ use Rattle.card.specs.Calls.{Op, length_of, read, create, write, set_length, syn
 use Rattle.card.specs.Runs.{Act, through, Runs}
 use Rattle.journal.specs.declared.fault.JournalFault.{JournalFault}
 use Rattle.refusal.specs.declared.fault.SetFault.{SetFault}
-use Rattle.refusal.specs.Numbers.{placed}
 use Rattle.steps.specs.declared.site.Site.{Site}
 
 pub record Task : Type 0 where

@@ -1,6 +1,6 @@
 -- A commit that was carried out on the parts of a set is one of the set.
-use Rattle.std.proofs.Common.{◌≡◌, ℕ, List, Some, None, Option, Result, sym, refl, ap, ◌∙◌, subst}
-use Rattle.card.specs.Meaning.{Meaning, Bytes, Name}
+use Rattle.std.proofs.Common.{◌≡◌, ℕ, None, Option, Result, sym, refl, ◌∙◌, subst}
+use Rattle.card.specs.Meaning.{Meaning}
 use Rattle.names.specs.declared.names.Names.{Names}
 use Rattle.names.specs.Names.{named}
 use Rattle.refusal.specs.declared.fault.SetFault.{SetFault}
@@ -14,7 +14,7 @@ use Rattle.store.specs.declared.mode.Mode.{Mode}
 use Rattle.store.specs.declared.mode.Mode.TheVariants.{Cold, Ready, Running}
 use Rattle.store.specs.declared.mode.Call.TheVariants.{End}
 use Rattle.store.specs.Modes.{counted}
-use Rattle.store.specs.Commits.{nonce_of, told, Concluded, CarriedOut, Commits}
+use Rattle.store.specs.Commits.{nonce_of, told, Concluded, Commits}
 
 module _ {C : Type 0} (m : Meaning C) where
   -- what a commit does on the card, by the parts of the set

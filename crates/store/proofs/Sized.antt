@@ -1,5 +1,5 @@
 -- A good recovery measured sizes within their limits.
-use Rattle.std.proofs.Common.{◌≡◌, ℕ, ◌+◌, ◌<◌, ◌≤◌, ◌⊎◌, List, get_or, Ok, Err, Result, sym, refl, ap, ◌∙◌, subst, inl, inr, arith}
+use Rattle.std.proofs.Common.{◌≡◌, ℕ, ◌<◌, ◌≤◌, ◌⊎◌, List, get_or, Ok, Err, Result, sym, subst, inl, inr, arith}
 use Rattle.std.proofs.lemmas.Bool.{cases_lt}
 use Rattle.card.specs.Meaning.{Meaning, Name}
 use Rattle.refusal.specs.declared.fault.SetFault.{SetFault}
@@ -9,7 +9,7 @@ use Rattle.survey.specs.declared.report.Found.{Found}
 use Rattle.recovery.specs.declared.report.Recovery.{Recovery}
 use Rattle.set_files.specs.Files.{Holds}
 use Rattle.recovery.specs.Measured.{Measured, Sizes}
-use Rattle.recovery.specs.Recovered.{report, Finished, AfterSettled, Settled, AfterSurvey, Recovered}
+use Rattle.recovery.specs.Recovered.{report, AfterSettled, AfterSurvey, Recovered}
 use Rattle.store.specs.Recovers.{Sized}
 
 fitting : (files : Holds) (file : ℕ → Name) (n : ℕ) (rows : List ℕ) → Sizes files file n rows → Fitting rows

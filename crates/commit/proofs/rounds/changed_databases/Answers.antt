@@ -1,4 +1,4 @@
-use Rattle.std.proofs.Common.{◌≡◌, ℕ, ◌+◌, [], ◌∷◌, length, sym, refl, ap, ◌∙◌, arith, length-append}
+use Rattle.std.proofs.Common.{◌≡◌, ℕ, [], ◌∷◌, length, sym, ap, ◌∙◌, arith, length-append}
 use Rattle.journaling.specs.Changes.{changed_list}
 use Rattle.commit.proofs.Turns.{none_listed, list_skip, list_more}
 use Rattle.commit.proofs.rounds.changed_databases.Goals as goal

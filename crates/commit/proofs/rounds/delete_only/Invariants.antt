@@ -1,4 +1,4 @@
-use Rattle.std.proofs.Common.{ℕ, ◌+◌, [], ◌∷◌}
+use Rattle.std.proofs.Common.{◌+◌, [], ◌∷◌}
 use Rattle.card.specs.Calls.{delete}
 use Rattle.names.specs.Names.{named}
 use Rattle.refusal.specs.declared.step.Step.TheVariants.{C4}

@@ -1,14 +1,11 @@
-use Rattle.std.proofs.Common.{◌≡◌, ℕ, ◌+◌, true, false, List, [], ◌∷◌, Ok, Err, sym, refl, ap, ◌∙◌, subst, arith}
+use Rattle.std.proofs.Common.{ℕ, ◌+◌, Err, sym, ap, ◌∙◌, subst, arith}
 use Rattle.std.proofs.lemmas.Result.{err_from_is_err_and}
 use Rattle.card.specs.Meaning.{Meaning, Name}
-use Rattle.card.specs.Calls.{delete}
 use Rattle.names.specs.Names.{named}
 use Rattle.refusal.specs.declared.fault.SetFault.{SetFault}
-use Rattle.refusal.specs.declared.step.Step.TheVariants.{C4}
-use Rattle.steps.specs.Tasks.{Task}
-use Rattle.steps.proofs.Went.{went_as, went_up}
-use Rattle.journaling.specs.Plan.{at, call, change_tasks}
-use Rattle.journaling.specs.Changes.{change_of, is_changed}
+use Rattle.steps.proofs.Went.{went_up}
+use Rattle.journaling.specs.Plan.{change_tasks}
+use Rattle.journaling.specs.Changes.{change_of}
 use Rattle.commit.proofs.Turns.{Round, round_none, round_skip, round_more, round_stop, round_all}
 use Rattle.commit.proofs.rounds.write_databases.Goals as goal
 

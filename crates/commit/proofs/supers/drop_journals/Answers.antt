@@ -1,17 +1,11 @@
-use Rattle.std.proofs.Common.{◌≡◌, ℕ, ◌+◌, ◌≤◌, Bool, true, false, cond, List, [], ◌∷◌, map, Ok, Err, Option, sym, refl, ap, ◌∙◌, subst, ap₂, arith}
+use Rattle.std.proofs.Common.{◌≡◌, ℕ, ◌+◌, ◌≤◌, List, sym, ap, ◌∙◌, subst, arith}
 use Rattle.std.proofs.lemmas.Bool.{cond-true, cond-false}
-use Rattle.std.proofs.lemmas.Result.{err_from_is_err_and}
-use Rattle.card.specs.Meaning.{Meaning, Bytes, Name}
-use Rattle.card.specs.Calls.{Called, cause_of, create, write, sync, delete}
+use Rattle.card.specs.Meaning.{Meaning, Name}
+use Rattle.card.specs.Calls.{Called, cause_of, delete}
 use Rattle.card.specs.Runs.{Act}
 use Rattle.names.specs.Names.{named}
-use Rattle.refusal.specs.declared.fault.SetFault.{SetFault}
-use Rattle.refusal.specs.declared.step.Step.TheVariants.{C1}
-use Rattle.steps.specs.Tasks.{Task, Went}
-use Rattle.steps.proofs.Went.{went_end, went_then, went_stop, went_as, went_up}
-use Rattle.journaling.specs.Changes.{changed_list}
 use Rattle.commit.specs.Ended.{Dropped}
-use Rattle.commit.proofs.Trying.{one_more, dropped_none, Trying, trying_none, trying_skip, trying_more, ill, well}
+use Rattle.commit.proofs.Trying.{dropped_none, Trying, trying_none, trying_skip, trying_more, ill, well}
 use Rattle.commit.proofs.supers.drop_journals.Goals as goal
 
 pub returns-then-not-many : goal.returns-then-not-many

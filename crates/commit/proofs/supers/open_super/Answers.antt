@@ -1,17 +1,16 @@
-use Rattle.std.proofs.Common.{◌≡◌, ℕ, ◌+◌, ◌≤◌, Bool, true, false, cond, List, [], ◌∷◌, map, take, Ok, Err, Option, Result, sym, refl, ap, ◌∙◌, subst, ap₂, arith}
+use Rattle.std.proofs.Common.{ℕ, ◌+◌, List, [], ◌∷◌, map, take, Ok, Err, sym, refl, ap, ◌∙◌, subst}
 use native.Mathlib.Nat.{sub-zero}
 use Rattle.std.proofs.lemmas.Bool.{cond-true, cond-false}
 use Rattle.std.proofs.lemmas.Result.{err_from_is_err_and}
-use Rattle.card.specs.Meaning.{Meaning, Bytes, Name}
-use Rattle.card.specs.Calls.{Called, cause_of, create, write, sync, delete}
-use Rattle.card.specs.Runs.{Act}
+use Rattle.card.specs.Meaning.{Meaning, Name}
+use Rattle.card.specs.Calls.{create, write, sync}
 use Rattle.names.specs.Names.{named}
 use Rattle.refusal.specs.declared.fault.SetFault.{SetFault}
 use Rattle.refusal.specs.declared.step.Step.TheVariants.{C1}
 use Rattle.steps.specs.Tasks.{Task, Went}
 use Rattle.steps.proofs.Went.{went_end, went_then, went_stop, went_as, went_up}
 use Rattle.super_journal.specs.Super.{super_journal_bytes}
-use Rattle.journaling.specs.Plan.{at, call, naming_tasks}
+use Rattle.journaling.specs.Plan.{at, call}
 use Rattle.journaling.specs.Changes.{changed_list}
 use Rattle.commit.proofs.supers.open_super.Goals as goal
 

@@ -1,4 +1,4 @@
-use Rattle.std.proofs.Common.{◌≡◌, length, refl, ap, ◌∙◌, arith}
+use Rattle.std.proofs.Common.{length, refl, ap, ◌∙◌, arith}
 use Rattle.card.proofs.Contents.{length_overwrite}
 use Rattle.commit.proofs.Listing.{put_both}
 use Rattle.commit.proofs.supers.put_ended.Goals as goal

@@ -1,8 +1,8 @@
-use Rattle.std.proofs.Common.{◌≡◌, ℕ, ◌+◌, ◌-◌, ◌<◌, ◌≤◌, true, List, [], ◌∷◌, map, length, take, Ok, Err, Result, sym, refl, ap, ◌∙◌, subst, ap₂, arith}
+use Rattle.std.proofs.Common.{◌≡◌, ℕ, ◌+◌, ◌-◌, true, List, [], map, length, take, Ok, Err, sym, refl, ap, ◌∙◌, subst, ap₂, arith}
 use native.Mathlib.Nat.{sub-zero}
 use Rattle.std.proofs.lemmas.List.{length-take}
 use Rattle.std.proofs.lemmas.Result.{err_from_is_err_and}
-use Rattle.card.specs.Meaning.{Meaning, Bytes, Name}
+use Rattle.card.specs.Meaning.{Meaning, Name}
 use Rattle.card.specs.Calls.{create}
 use Rattle.journal_writer.specs.OnCard.{store_acts}
 use Rattle.journal_writer.specs.Written.{Filled, pages_lawful, originals}
@@ -18,7 +18,7 @@ use Rattle.steps.proofs.Went.{went_as, went_up, went_acted}
 use Rattle.journaling.specs.Plan.{Change, original, super_of, at}
 use Rattle.journaling.specs.Changes.{contents, recorded}
 use Rattle.journaling.specs.Buffers.{PagesOk}
-use Rattle.journaling.proofs.Recorded.{recorded_few, recorded_ok}
+use Rattle.journaling.proofs.Recorded.{recorded_ok}
 use Rattle.journaling.proofs.Fills.{recorded_lawful}
 use Rattle.journaling.proofs.Readings.{read_as}
 use Rattle.journaling.proofs.Makes.{not_created, not_read, stored_whole}

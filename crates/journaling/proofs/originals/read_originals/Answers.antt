@@ -1,6 +1,5 @@
-use Rattle.std.proofs.Common.{◌≡◌, length, Ok, Err, Result, sym, ap, ◌∙◌, subst, arith}
+use Rattle.std.proofs.Common.{Err, Result, sym, ap, ◌∙◌, subst, arith}
 use Rattle.std.proofs.lemmas.Result.{err_from_is_err_and}
-use Rattle.card.specs.Meaning.{Meaning}
 use Rattle.refusal.specs.declared.fault.SetFault.{SetFault}
 use Rattle.steps.proofs.Went.{went_up}
 use Rattle.journaling.specs.Changes.{contents}

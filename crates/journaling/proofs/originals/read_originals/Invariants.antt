@@ -1,4 +1,3 @@
-use Rattle.card.specs.Meaning.{Meaning}
 use Rattle.journaling.proofs.Readings.{Reading}
 use Rattle.journaling.proofs.originals.read_originals.Given as goal
 

@@ -1,4 +1,4 @@
-use Rattle.std.proofs.Common.{◌≡◌, ℕ, ◌+◌, ◌-◌, ◌∷◌, ap, ◌∙◌, arith}
+use Rattle.std.proofs.Common.{ℕ, ◌-◌, ◌∷◌, ap, ◌∙◌, arith}
 use Rattle.pager.specs.Sound.{map_of}
 use Rattle.page_map.specs.Listed.{above}
 use Rattle.page_map.proofs.Listed.{above_next, above_past, above_none}

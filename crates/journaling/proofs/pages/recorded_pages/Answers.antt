@@ -1,7 +1,6 @@
 use Rattle.std.proofs.Common.{replicate, refl, arith}
-use Rattle.pager.specs.Sound.{map_of}
 use Rattle.pager.proofs.Counted.{changed_few}
-use Rattle.journaling.proofs.Recorded.{Gathered, recorded_few, gathered_first, gathered_more, gathered_all, room}
+use Rattle.journaling.proofs.Recorded.{recorded_few, gathered_first, gathered_more, room}
 use Rattle.journaling.proofs.pages.recorded_pages.Goals as goal
 
 pub loop-page-init : goal.loop-page-init

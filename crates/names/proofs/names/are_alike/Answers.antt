@@ -1,4 +1,4 @@
-use Rattle.std.proofs.Common.{◌≡◌, sym, ◌∙◌}
+use Rattle.std.proofs.Common.{sym, ◌∙◌}
 use Rattle.std.proofs.lemmas.Slice.Eq.{slice_eq-Decides}
 use Rattle.names.proofs.names.are_alike.Goals as goal
 use Rattle.std.proofs.lemmas.Bool.Decides.{Decides-eqb}

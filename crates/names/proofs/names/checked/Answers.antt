@@ -1,8 +1,7 @@
-use Rattle.std.proofs.Common.{◌≡◌, ℕ, ◌<◌, ◌≤◌, Bool, true, false, List, [], length, get_or, sym, refl, ap, ◌∙◌, subst, ⊎_elim, arith}
-use Rattle.std.proofs.lemmas.Bool.{lt-leb, le-leb, and_left, and_right, and_from, leb-true, and_parts}
+use Rattle.std.proofs.Common.{◌≡◌, ℕ, ◌≤◌, true, length, sym, ap, ◌∙◌, subst, ⊎_elim, arith}
+use Rattle.std.proofs.lemmas.Bool.{lt-leb, le-leb, and_left, and_right, and_from}
 use Rattle.std.proofs.lemmas.Bool.Decides.{not_from_Decides}
-use Rattle.names.specs.Names.{Bytes, texts, listed, count_ok, length_ok, bytes_ok, Alike, Apart}
-use Rattle.names.specs.Refused.{Each}
+use Rattle.names.specs.Names.{texts, listed, count_ok, Alike, Apart}
 use Rattle.names.proofs.Texts.{text_at, length_texts, short_name}
 use Rattle.names.proofs.Rows.{Kept, kept_more, rows_some, rows_few, rows_plain, rows_apart}
 use Rattle.names.proofs.names.checked.Goals as goal

@@ -1,4 +1,4 @@
-use Rattle.std.proofs.Common.{◌≡◌, sym, ap, ◌∙◌, arith, below_more}
+use Rattle.std.proofs.Common.{sym, ap, ◌∙◌, arith, below_more}
 use Rattle.names.specs.Names.{length_ok}
 use Rattle.names.proofs.Texts.{text_at, length_texts}
 use Rattle.names.proofs.names.first_long.Goals as goal

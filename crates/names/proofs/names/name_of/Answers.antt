@@ -1,7 +1,6 @@
-use Rattle.std.proofs.Common.{◌≡◌, ℕ, ◌+◌, ◌-◌, ◌<◌, ◌≤◌, List, [], ◌++◌, length, get_or, sym, ap, ◌∙◌, arith}
+use Rattle.std.proofs.Common.{◌-◌, ◌++◌, sym, ap, ◌∙◌, arith}
 use Rattle.std.proofs.lemmas.List.{append-nil}
-use Rattle.names.specs.Names.{Bytes, listed, texts, length_ok, journal_ending, super_ending}
-use Rattle.names.specs.Refused.{Each}
+use Rattle.names.specs.Names.{Bytes, listed, texts, journal_ending, super_ending}
 use Rattle.names.proofs.Texts.{text_at, short_name}
 use Rattle.names.proofs.Files.{file_database, file_journal, name_database, name_journal, name_super}
 use Rattle.names.proofs.names.name_of.Goals as goal

@@ -1,11 +1,10 @@
-use Rattle.std.proofs.Common.{◌≡◌, ℕ, List, [], ◌∷◌, Ok, Err, Result, sym, refl, ap, ◌∙◌}
+use Rattle.std.proofs.Common.{ℕ, [], ◌∷◌, Ok, Err, sym, refl, ap, ◌∙◌}
 use Rattle.std.proofs.lemmas.Result.{err_from_is_err_and}
 use Rattle.card.specs.Meaning.{Meaning, Name}
 use Rattle.card.specs.Calls.{write, sync}
 use Rattle.names.specs.Names.{named}
 use Rattle.refusal.specs.declared.fault.SetFault.{SetFault}
 use Rattle.refusal.specs.declared.step.Step.TheVariants.{C3}
-use Rattle.steps.specs.Tasks.{Task}
 use Rattle.steps.proofs.Went.{went_as, went_up}
 use Rattle.journaling.specs.Plan.{at, call, place}
 use Rattle.page_writer.proofs.Writings.{writing_none, writing_more, writing_stopped, writing_all}

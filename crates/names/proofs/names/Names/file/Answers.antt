@@ -1,8 +1,8 @@
-use Rattle.std.proofs.Common.{◌≡◌, ℕ, ◌+◌, ◌-◌, ◌<◌, ◌≤◌, Bool, true, false, cond, List, [], ◌++◌, sym, ap, ◌∙◌, arith}
+use Rattle.std.proofs.Common.{ℕ, ◌-◌, Bool, cond, List, [], ◌++◌, sym, ap, ◌∙◌, arith}
 use Rattle.std.proofs.lemmas.List.{append-nil}
-use Rattle.names.specs.Names.{named, is_file, name_at, file_name, journal_ending}
+use Rattle.names.specs.Names.{named, name_at, file_name, journal_ending}
 use Rattle.names.proofs.Rows.{whole_row}
-use Rattle.names.proofs.Files.{named_file, file_database, file_journal, name_database, name_journal, name_super}
+use Rattle.names.proofs.Files.{named_file, name_database, name_journal, name_super}
 use Rattle.names.proofs.names.Names.file.Goals as goal
 
 pub returns-then-not-is_file : goal.returns-then-not-is_file

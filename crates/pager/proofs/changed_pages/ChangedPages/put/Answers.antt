@@ -1,5 +1,5 @@
-use Rattle.std.proofs.Common.{◌≡◌, ℕ, ◌+◌, ◌<◌, Bool, cond, length, take, is_some, sym, refl, ap, ◌∙◌, arith}
-use Rattle.pager.specs.Changed.{Found, look}
+use Rattle.std.proofs.Common.{◌+◌, ◌<◌, Bool, cond, is_some, sym, ap, arith}
+use Rattle.pager.specs.Changed.{Found}
 use Rattle.pager.proofs.Looks.{look_none, look_found, look_replaced, look_added, whole_set}
 use Rattle.pager.proofs.changed_pages.ChangedPages.put.Goals as goal
 

@@ -1,4 +1,4 @@
-use Rattle.std.proofs.Common.{◌≡◌, ℕ, Bool, not, ◌&&◌, eqb, sym, ap, ◌∙◌, ap₂}
+use Rattle.std.proofs.Common.{ℕ, Bool, not, ◌&&◌, eqb, sym, ap, ◌∙◌, ap₂}
 use Rattle.std.proofs.lemmas.Bool.{and_left}
 use Rattle.pager.specs.Sound.{map_of}
 use Rattle.pager.specs.View.{fields}

@@ -1,4 +1,4 @@
-use Rattle.std.proofs.Common.{◌≡◌, ℕ, List, [], take, replicate, sym, refl, ap, ◌∙◌, subst, ap₂, arith}
+use Rattle.std.proofs.Common.{◌≡◌, ℕ, List, [], take, replicate, sym, refl, ap, ◌∙◌, subst, arith}
 use Rattle.pager.specs.declared.changed_page.ChangedPage.{ChangedPage}
 use Rattle.pager.specs.declared.saved_page.SavedPage.{SavedPage}
 use Rattle.pager.specs.Sound.{Sound}

@@ -1,8 +1,7 @@
-use Rattle.std.proofs.Common.{◌≡◌, ℕ, suc, ◌+◌, false, [], Some, None, sym, refl, ap, ◌∙◌, subst, add-one, arith}
+use Rattle.std.proofs.Common.{◌≡◌, ℕ, suc, false, [], sym, refl, ap, ◌∙◌, subst, add-one, arith}
 use mathlib.Core.Logic.{∥∥₁_map}
 use Rattle.std.proofs.lemmas.Bool.{eq-eqb, ne_eqb, cond-true, cond-false}
 use Rattle.pager.specs.Saved.{has_from}
-use Rattle.pager.specs.Sound.{Sound}
 use Rattle.pager.specs.View.{fields, stack, held_now}
 use Rattle.pager.proofs.Keeps.{none_above, some_none}
 use Rattle.pager.proofs.Stack.{back_law}

@@ -1,9 +1,8 @@
-use Rattle.std.proofs.Common.{◌≡◌, ℕ, suc, ◌+◌, ◌-◌, ◌<◌, ◌≤◌, false, leb, List, [], take, Some, None, sym, refl, ap, ◌∙◌, subst, arith}
+use Rattle.std.proofs.Common.{suc, ◌-◌, leb, List, [], sym, refl, ap, ◌∙◌, arith}
 use mathlib.Core.Logic.{∥∥₁_map}
 use Rattle.std.proofs.lemmas.Bool.{cond-true, cond-false, and_parts, leb-true}
 use Rattle.pager.specs.declared.saved_page.SavedPage.{SavedPage}
-use Rattle.pager.specs.Saved.{has_from, gathered}
-use Rattle.pager.specs.Sound.{Sound}
+use Rattle.pager.specs.Saved.{has_from}
 use Rattle.pager.specs.View.{Fields, fields, stack, held_now}
 use Rattle.pager.proofs.Keeps.{none_above, some_none}
 use Rattle.pager.proofs.Stack.{release_law}

@@ -1,10 +1,8 @@
-use Rattle.std.proofs.Common.{◌≡◌, ℕ, ◌+◌, ◌<◌, Bool, cond, length, take, Some, None, sym, refl, ap, ◌∙◌, arith}
+use Rattle.std.proofs.Common.{◌+◌, Bool, cond, length, sym, refl, ap, ◌∙◌, arith}
 use mathlib.Core.Logic.{∥∥₁_map}
-use Rattle.card.specs.Meaning.{Bytes}
-use Rattle.pager.specs.declared.refusal.Refusal.{Refusal}
-use Rattle.pager.specs.View.{fields, view}
+use Rattle.pager.specs.View.{fields}
 use Rattle.pager.proofs.Views.{held_written, stack_written}
-use Rattle.pager.proofs.Keeps.{allowed, room, saved_room, linked, look_long, page_is, page_low, page_high, wrote_from, sound_written}
+use Rattle.pager.proofs.Keeps.{allowed, room, linked, look_long, page_is, page_low, page_high, wrote_from, sound_written}
 use Rattle.pager.proofs.memory.Memory.write.Goals as goal
 
 pub put-requires : goal.put-requires

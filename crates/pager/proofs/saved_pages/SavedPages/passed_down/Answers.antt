@@ -1,7 +1,7 @@
-use Rattle.std.proofs.Common.{◌≡◌, ℕ, List, [], get_or, take, sym, refl, ap, ◌∙◌, ap₂, arith}
+use Rattle.std.proofs.Common.{ℕ, List, [], get_or, take, sym, ap, ◌∙◌, ap₂, arith}
 use Rattle.std.proofs.lemmas.List.{take_more}
 use Rattle.pager.specs.declared.saved_page.SavedPage.{SavedPage}
-use Rattle.pager.specs.Saved.{gathered, added, passed}
+use Rattle.pager.specs.Saved.{gathered, added}
 use Rattle.pager.proofs.Saves.{no_saved, gathered_none, gathered_end}
 use Rattle.pager.proofs.saved_pages.SavedPages.passed_down.Goals as goal
 

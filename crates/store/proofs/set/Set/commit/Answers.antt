@@ -1,4 +1,4 @@
-use Rattle.std.proofs.Common.{◌≡◌, ℕ, ap, ◌∙◌}
+use Rattle.std.proofs.Common.{ℕ, ap, ◌∙◌}
 use Rattle.card.specs.Meaning.{Meaning}
 use Rattle.store.specs.declared.mode.Call.TheVariants.{End}
 use Rattle.store.specs.Modes.{says}

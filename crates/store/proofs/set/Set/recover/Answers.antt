@@ -1,10 +1,10 @@
-use Rattle.std.proofs.Common.{◌≡◌, Result, sym, ◌∙◌, subst}
+use Rattle.std.proofs.Common.{Result, sym, subst}
 use Rattle.card.specs.Meaning.{Meaning}
 use Rattle.refusal.specs.declared.refusals.Refusal.{Refusal}
 use Rattle.recovery.specs.declared.report.Recovery.{Recovery}
 use Rattle.recovery.specs.Recovered.{Recovered}
 use Rattle.store.specs.Reads.{file_of}
-use Rattle.store.specs.Recovers.{Restarted, Recovers}
+use Rattle.store.specs.Recovers.{Recovers}
 use Rattle.store.proofs.Sized.{sized}
 use Rattle.store.proofs.set.Set.recover.Goals as goal
 

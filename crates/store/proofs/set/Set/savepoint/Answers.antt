@@ -1,13 +1,7 @@
-use Rattle.std.proofs.Common.{◌≡◌, ℕ, ◌+◌, cond, eqb, IfOk, Some, None, ap, ◌∙◌, subst}
-use Rattle.refusal.specs.declared.refusals.Refusal.TheVariants.{SavepointsFull}
-use Rattle.pager.specs.declared.memory.Memory.{Memory}
-use Rattle.pager.specs.Machine.{Machine, pushed}
-use Rattle.pager.specs.View.{view}
+use Rattle.std.proofs.Common.{ap, ◌∙◌}
+use Rattle.pager.specs.Machine.{Machine}
 use Rattle.pager.specs.View.{refused}
-use Rattle.store.specs.declared.mode.Call.TheVariants.{Use}
-use Rattle.store.specs.Modes.{says}
 use Rattle.store.proofs.Bounds.{held_bounded}
-use Rattle.store.proofs.Kept.{same_memory, but_memory, second}
 use Rattle.store.proofs.set.Set.savepoint.Goals as goal
 
 pub invariant_of-self : goal.invariant_of-self

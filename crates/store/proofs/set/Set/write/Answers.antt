@@ -1,13 +1,6 @@
-use Rattle.std.proofs.Common.{◌≡◌, ℕ, ◌+◌, cond, length, None, ap, ◌∙◌}
-use Rattle.pager.specs.declared.memory.Memory.{Memory}
-use Rattle.pager.specs.Machine.{written}
-use Rattle.pager.specs.Sound.{map_of}
-use Rattle.pager.specs.View.{view, saved_first, write_refusal}
+use Rattle.std.proofs.Common.{◌∙◌}
 use Rattle.pager.specs.View.{refused}
-use Rattle.store.specs.declared.mode.Call.TheVariants.{Use}
-use Rattle.store.specs.Modes.{says}
 use Rattle.store.proofs.Bounds.{write_bounded}
-use Rattle.store.proofs.Kept.{same_memory, but_memory, second}
 use Rattle.store.proofs.set.Set.write.Goals as goal
 
 pub invariant_of-self : goal.invariant_of-self
