@@ -9,7 +9,7 @@ use pager::Memory;
 use sizes::Sizes;
 
 mod admit;
-mod commit;
+mod commits;
 mod ends;
 mod look;
 mod read;
