@@ -2,6 +2,8 @@
 ghost use Rattle.std.specs.Prelude.{◌≡◌};
 ghost use Rattle.card.specs.Calls.{cause_number};
 
+use std::fmt;
+
 /// Why a call of a card was refused, numbered from 1.
 #[derive(Clone, Copy, PartialEq, Eq, Debug)]
 pub enum Cause {
@@ -21,6 +23,18 @@ impl Cause {
     }
 }
 
+impl fmt::Display for Cause {
+    fn fmt<W: fmt::Write>(&self, f: &mut fmt::Formatter<W>) -> fmt::Result {
+        f.write_str(match self {
+            Cause::Power => "power",
+            Cause::Device => "device",
+            Cause::Absent => "absent",
+            Cause::Present => "present",
+            Cause::Range => "range",
+        })
+    }
+}
+
 /// The calls of a card that can be refused.
 #[derive(Clone, Copy, PartialEq, Eq, Debug)]
 pub enum CardCall {
@@ -31,6 +45,21 @@ pub enum CardCall {
     SetLength,
     Sync,
     Delete,
+}
+
+/// The call in words that go before a file's name.
+impl fmt::Display for CardCall {
+    fn fmt<W: fmt::Write>(&self, f: &mut fmt::Formatter<W>) -> fmt::Result {
+        f.write_str(match self {
+            CardCall::Length => "length of",
+            CardCall::Read => "read",
+            CardCall::Create => "create",
+            CardCall::Write => "write",
+            CardCall::SetLength => "set length of",
+            CardCall::Sync => "sync",
+            CardCall::Delete => "delete",
+        })
+    }
 }
 
 /// A refused call: why, which call, and the origin that its card or layer was made with.

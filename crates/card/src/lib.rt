@@ -23,57 +23,50 @@ pub const NAME_LIMIT: usize = 32;
 pub const FILE_LIMIT: usize = 2_097_152;
 
 pub trait Card {
-    /// Power is on.
-    ghost on: { Self → Bool };
-
-    /// What the file of a name holds now; none if it is absent.
-    ghost holds: { Self → List ℕ → Option (List ℕ) };
-
-    /// The contents of a present file that may remain if power fails.
-    ghost remains: { Self → List ℕ → List ℕ → Type 0 };
-
-    /// The origins that the faults of this card, and of the cards below it, may carry.
-    ghost origins: { Self → ℕ → Type 0 };
+    /// What the card means: whether power is on, what the file of a name holds now, none if it is
+    /// absent, the contents of a present file that may remain if power fails, and the origins that the
+    /// faults of this card, and of the cards below it, may carry.
+    ghost meaning: { Meaning Self };
 
     /// How many bytes the file holds now, or none if it is absent.
     fn length(&mut self, name: &[u8]) -> Result<Option<u32>, CardFault>
-        ensures answered { Answered (record { on = on; holds = holds; remains = remains; origins = origins }) self.old name.now length_of result self.new }
-        ensures told { ToldLength (holds self.old name.now) result };
+        ensures answered { Answered meaning self.old name.now length_of result self.new }
+        ensures told { ToldLength (meaning.holds self.old name.now) result };
 
     /// Fills the buffer with the file's bytes from a place on; a refused read leaves it.
     fn read(&mut self, name: &[u8], place: u32, buffer: &mut [u8]) -> Result<(), CardFault>
-        ensures answered { Answered (record { on = on; holds = holds; remains = remains; origins = origins }) self.old name.now (reading place (count buffer.old)) result self.new }
-        ensures told { ToldBytes (holds self.old name.now) place buffer.old result buffer.new };
+        ensures answered { Answered meaning self.old name.now (reading place (count buffer.old)) result self.new }
+        ensures told { ToldBytes (meaning.holds self.old name.now) place buffer.old result buffer.new };
 
     /// Makes an absent file present and empty; only that may remain.
     fn create(&mut self, name: &[u8]) -> Result<(), CardFault>
-        ensures { Answered (record { on = on; holds = holds; remains = remains; origins = origins }) self.old name.now creating result self.new };
+        ensures { Answered meaning self.old name.now creating result self.new };
 
     /// Puts bytes into the file at a place at or before its end.
     fn write(&mut self, name: &[u8], place: u32, bytes: &[u8]) -> Result<(), CardFault>
-        ensures { Answered (record { on = on; holds = holds; remains = remains; origins = origins }) self.old name.now (writing place bytes.now) result self.new };
+        ensures { Answered meaning self.old name.now (writing place bytes.now) result self.new };
 
     /// Cuts the file, or fills it with zeros, to a length.
     fn set_length(&mut self, name: &[u8], length: u32) -> Result<(), CardFault>
-        ensures { Answered (record { on = on; holds = holds; remains = remains; origins = origins }) self.old name.now (set_length length) result self.new };
+        ensures { Answered meaning self.old name.now (set_length length) result self.new };
 
     /// Leaves only what the file holds now as what may remain of it.
     fn sync(&mut self, name: &[u8]) -> Result<(), CardFault>
-        ensures { Answered (record { on = on; holds = holds; remains = remains; origins = origins }) self.old name.now syncing result self.new };
+        ensures { Answered meaning self.old name.now syncing result self.new };
 
     /// Makes a present file absent; only absence may remain.
     fn delete(&mut self, name: &[u8]) -> Result<(), CardFault>
-        ensures { Answered (record { on = on; holds = holds; remains = remains; origins = origins }) self.old name.now deleting result self.new };
+        ensures { Answered meaning self.old name.now deleting result self.new };
 
     /// Switches power on. It is never refused.
     fn power(&mut self)
-        ensures { Switched (record { on = on; holds = holds; remains = remains; origins = origins }) self.old self.new };
+        ensures { Switched meaning self.old self.new };
 
     /// Whether power is on. It is never refused. Its contract also carries the two laws that every
     /// card's meaning keeps: what a file holds now may remain, and of an absent file only absence.
     fn powered(&self) -> bool
-        ensures on { result ≡ on self.now }
-        ensures laws { Lawful (record { on = on; holds = holds; remains = remains; origins = origins }) };
+        ensures on { result ≡ meaning.on self.now }
+        ensures laws { Lawful meaning };
 }
 
 /// What the meaning of any card lets a proof say about power failure: its contract is the law that
@@ -81,8 +74,8 @@ pub trait Card {
 /// work; and small cases of the calls. It answers whether the card that it was shown has power.
 pub fn crash_law<C: Card>(card: &C) -> bool
     ensures examples { Examples }
-    ensures law { CrashLaw (record { on = C.Card.on; holds = C.Card.holds; remains = C.Card.remains; origins = C.Card.origins }) }
-    ensures powered { result ≡ C.Card.on card.now }
+    ensures law { CrashLaw C.Card.meaning }
+    ensures powered { result ≡ C.Card.meaning.on card.now }
 {
     card.powered()
 }

@@ -36,7 +36,7 @@ pub fn write_databases<C: Card>(
     names: &Names,
     memory: &Memory,
 ) -> Result<(), SetFault>
-    ensures { (stored : ℕ → List ℕ) (base : List ℕ) → Went (record { on = C.Card.on; holds = C.Card.holds; remains = C.Card.remains; origins = C.Card.origins }) (for_each (λ d. change_tasks (named names.now.rows names.now.lens names.now.count) (change_of stored base memory.now d)) (changed_list memory.now names.now.count)) card.old result card.new }
+    ensures { (stored : ℕ → List ℕ) (base : List ℕ) → Went C.Card.meaning (for_each (λ d. change_tasks (named names.now.rows names.now.lens names.now.count) (change_of stored base memory.now d)) (changed_list memory.now names.now.count)) card.old result card.new }
 {
     for database in 0..names.count() {
         if is_changed(memory, database) {
@@ -48,7 +48,7 @@ pub fn write_databases<C: Card>(
 
 /// Deletes the journal of each database: with one, that is the deletion that makes the commit count.
 pub fn delete_only<C: Card>(card: &mut C, names: &Names, memory: &Memory) -> Result<(), SetFault>
-    ensures { Went (record { on = C.Card.on; holds = C.Card.holds; remains = C.Card.remains; origins = C.Card.origins }) (for_each (λ d. call (named names.now.rows names.now.lens names.now.count) C4 (4 + d) deletes ∷ []) (changed_list memory.now names.now.count)) card.old result card.new }
+    ensures { Went C.Card.meaning (for_each (λ d. call (named names.now.rows names.now.lens names.now.count) C4 (4 + d) deletes ∷ []) (changed_list memory.now names.now.count)) card.old result card.new }
 {
     for database in 0..names.count() {
         if is_changed(memory, database) {
@@ -69,7 +69,7 @@ pub fn make_journals<C: Card>(
     linked: bool,
     buffer: &mut [u8; JOURNAL_LIMIT],
 ) -> Result<(), SetFault>
-    ensures { (stored : ℕ → List ℕ) → ((k : ℕ) → k < names.now.count → contents (C.Card.holds card.old (named names.now.rows names.now.lens names.now.count k)) ≡ stored k) → Went (record { on = C.Card.on; holds = C.Card.holds; remains = C.Card.remains; origins = C.Card.origins }) (for_each (λ d. journal_tasks (named names.now.rows names.now.lens names.now.count) nonce (super_of (named names.now.rows names.now.lens names.now.count) linked) (change_of stored sizes.now.rows memory.now d)) (changed_list memory.now names.now.count)) card.old result card.new }
+    ensures { (stored : ℕ → List ℕ) → ((k : ℕ) → k < names.now.count → contents (C.Card.meaning.holds card.old (named names.now.rows names.now.lens names.now.count k)) ≡ stored k) → Went C.Card.meaning (for_each (λ d. journal_tasks (named names.now.rows names.now.lens names.now.count) nonce (super_of (named names.now.rows names.now.lens names.now.count) linked) (change_of stored sizes.now.rows memory.now d)) (changed_list memory.now names.now.count)) card.old result card.new }
 {
     for database in 0..names.count() {
         if is_changed(memory, database) {

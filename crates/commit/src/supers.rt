@@ -53,7 +53,7 @@ pub fn open_super<C: Card>(
     many: bool,
     buffer: &mut [u8; JOURNAL_LIMIT],
 ) -> Result<(), SetFault>
-    ensures { Went (record { on = C.Card.on; holds = C.Card.holds; remains = C.Card.remains; origins = C.Card.origins }) (if many then naming_tasks (named names.now.rows names.now.lens names.now.count) (map (λ d. named names.now.rows names.now.lens names.now.count (4 + d)) (changed_list memory.now names.now.count)) else []) card.old result card.new }
+    ensures { Went C.Card.meaning (if many then naming_tasks (named names.now.rows names.now.lens names.now.count) (map (λ d. named names.now.rows names.now.lens names.now.count (4 + d)) (changed_list memory.now names.now.count)) else []) card.old result card.new }
 {
     if !many {
         return Ok(());
@@ -73,7 +73,7 @@ pub fn close<C: Card>(
     memory: &Memory,
     many: bool,
 ) -> Result<(), SetFault>
-    ensures { Went (record { on = C.Card.on; holds = C.Card.holds; remains = C.Card.remains; origins = C.Card.origins }) (if many then call (named names.now.rows names.now.lens names.now.count) C4 8 deletes ∷ [] else for_each (λ d. call (named names.now.rows names.now.lens names.now.count) C4 (4 + d) deletes ∷ []) (changed_list memory.now names.now.count)) card.old result card.new }
+    ensures { Went C.Card.meaning (if many then call (named names.now.rows names.now.lens names.now.count) C4 8 deletes ∷ [] else for_each (λ d. call (named names.now.rows names.now.lens names.now.count) C4 (4 + d) deletes ∷ []) (changed_list memory.now names.now.count)) card.old result card.new }
 {
     if !many {
         return delete_only(card, names, memory);
@@ -84,7 +84,7 @@ pub fn close<C: Card>(
 
 /// Deletes each journal after the super-journal, going on after a refusal, and tells how many were refused.
 pub fn drop_journals<C: Card>(card: &mut C, names: &Names, memory: &Memory, many: bool) -> usize
-    ensures { Dropped (record { on = C.Card.on; holds = C.Card.holds; remains = C.Card.remains; origins = C.Card.origins }) (if many then map (λ d. record { name = named names.now.rows names.now.lens names.now.count (4 + d); op = deletes }) (changed_list memory.now names.now.count) else []) card.old result card.new }
+    ensures { Dropped C.Card.meaning (if many then map (λ d. record { name = named names.now.rows names.now.lens names.now.count (4 + d); op = deletes }) (changed_list memory.now names.now.count) else []) card.old result card.new }
 {
     let mut left = 0;
     if !many {

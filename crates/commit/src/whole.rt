@@ -24,7 +24,7 @@ pub fn commit<C: Card>(
     nonce: u32,
     buffer: &mut [u8; JOURNAL_LIMIT],
 ) -> Result<usize, SetFault>
-    ensures { Committed (record { on = C.Card.on; holds = C.Card.holds; remains = C.Card.remains; origins = C.Card.origins }) (named names.now.rows names.now.lens names.now.count) nonce (changes (λ d. contents (C.Card.holds card.old (named names.now.rows names.now.lens names.now.count d))) sizes.now.rows memory.now names.now.count) card.old result card.new }
+    ensures { Committed C.Card.meaning (named names.now.rows names.now.lens names.now.count) nonce (changes (λ d. contents (C.Card.meaning.holds card.old (named names.now.rows names.now.lens names.now.count d))) sizes.now.rows memory.now names.now.count) card.old result card.new }
 {
     let many = changed_databases(memory, names.count()) >= 2;
     open_super(card, names, memory, many, buffer)?;

@@ -76,13 +76,7 @@ impl DelayedCard<'_> {
 }
 
 impl<'a> Card for DelayedCard<'a> {
-    ghost on = { λ c. c.on };
-
-    ghost holds = { λ c n. held (half c.current.bytes.now c.synced.bytes.now) n };
-
-    ghost remains = { λ c n b. MayRemain (half c.current.bytes.now c.synced.bytes.now) (half c.synced.bytes.now c.current.bytes.now) n b };
-
-    ghost origins = { λ c o. o ≡ c.origin };
+    ghost meaning = { delayed (λ c. c.on) (λ c. half c.current.bytes.now c.synced.bytes.now) (λ c. half c.synced.bytes.now c.current.bytes.now) (λ c. c.origin) };
 
     fn length(&mut self, name: &[u8]) -> Result<Option<u32>, CardFault>
         ensures answered { Answered (delayed (λ c. c.on) (λ c. half c.current.bytes.now c.synced.bytes.now) (λ c. half c.synced.bytes.now c.current.bytes.now) (λ c. c.origin)) self.old name.now length_of result self.new }

@@ -32,13 +32,7 @@ impl DirectCard<'_> {
 }
 
 impl<'a> Card for DirectCard<'a> {
-    ghost on = { λ _. true };
-
-    ghost holds = { λ c n. held c.image.now n };
-
-    ghost remains = { λ c n b. held c.image.now n ≡ Some b };
-
-    ghost origins = { λ c o. o ≡ c.origin };
+    ghost meaning = { direct (λ c. c.image.now) (λ c. c.origin) };
 
     fn length(&mut self, name: &[u8]) -> Result<Option<u32>, CardFault>
         ensures answered { Answered (direct (λ c. c.image.now) (λ c. c.origin)) self.old name.now length_of result self.new }

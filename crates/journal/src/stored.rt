@@ -31,8 +31,8 @@ pub fn judge_file<C: Card>(
     name: &[u8],
     buffer: &mut [u8; JOURNAL_LIMIT],
 ) -> Result<Option<Verdict>, JournalFault>
-    ensures acted { Acted (record { on = C.Card.on; holds = C.Card.holds; remains = C.Card.remains; origins = C.Card.origins }) (judge_acts name.now (C.Card.holds card.old name.now)) card.old result card.new }
-    ensures told { ToldVerdict (C.Card.holds card.old name.now) buffer.old result buffer.new }
+    ensures acted { Acted C.Card.meaning (judge_acts name.now (C.Card.meaning.holds card.old name.now)) card.old result card.new }
+    ensures told { ToldVerdict (C.Card.meaning.holds card.old name.now) buffer.old result buffer.new }
 {
     let Some(length) = card.length(name)? else {
         return Ok(None);

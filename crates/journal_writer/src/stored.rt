@@ -12,7 +12,7 @@ pub fn store_journal<C: Card>(
     bytes: &[u8],
     count: u32,
 ) -> Result<(), JournalFault>
-    ensures { Acted (record { on = C.Card.on; holds = C.Card.holds; remains = C.Card.remains; origins = C.Card.origins }) (store_acts name.now bytes.now count) card.old result card.new }
+    ensures { Acted C.Card.meaning (store_acts name.now bytes.now count) card.old result card.new }
 {
     card.write(name, 0, bytes)?;
     card.sync(name)?; // the journal is safe before its count

@@ -57,7 +57,7 @@ pub fn make_journal<C: Card>(
     requires known { database < memory.now.count }
     requires some { 1 ≤ size }
     requires small { size ≤ 4096 }
-    ensures { Went (record { on = C.Card.on; holds = C.Card.holds; remains = C.Card.remains; origins = C.Card.origins }) (journal_tasks (named names.now.rows names.now.lens names.now.count) nonce (super_of (named names.now.rows names.now.lens names.now.count) linked) (record { database = database; stored = contents (C.Card.holds card.old (named names.now.rows names.now.lens names.now.count database)); size = size; recorded = recorded (map_of memory.now.maps database) size; pages = [] })) card.old result card.new }
+    ensures { Went C.Card.meaning (journal_tasks (named names.now.rows names.now.lens names.now.count) nonce (super_of (named names.now.rows names.now.lens names.now.count) linked) (record { database = database; stored = contents (C.Card.meaning.holds card.old (named names.now.rows names.now.lens names.now.count database)); size = size; recorded = recorded (map_of memory.now.maps database) size; pages = [] })) card.old result card.new }
 {
     let file = names.file(database);
     let journal = names.file(DATABASES + database);

@@ -25,8 +25,8 @@ fn read_original<C: Card>(
     requires index { index < 33 }
     requires first { 1 ≤ page }
     requires last { page ≤ 4096 }
-    ensures went { Went (record { on = C.Card.on; holds = C.Card.holds; remains = C.Card.remains; origins = C.Card.origins }) (task (at_record C2 database (index + 1)) name.now (reads (place_of page) 512) ∷ []) card.old result card.new }
-    ensures copied { Copied (contents (C.Card.holds card.old name.now)) page index buffer.old result buffer.new }
+    ensures went { Went C.Card.meaning (task (at_record C2 database (index + 1)) name.now (reads (place_of page) 512) ∷ []) card.old result card.new }
+    ensures copied { Copied (contents (C.Card.meaning.holds card.old name.now)) page index buffer.old result buffer.new }
 {
     let start = SECTOR + RECORD * index + 4;
     let site = Site::of_record(Step::C2, database, index as u32 + 1);
@@ -48,8 +48,8 @@ pub fn read_originals<C: Card>(
 ) -> Result<(), SetFault>
     requires few { count_of pages.now ≤ 33 }
     requires pages { PagesOk pages.now }
-    ensures went { Went (record { on = C.Card.on; holds = C.Card.holds; remains = C.Card.remains; origins = C.Card.origins }) (read_tasks name.now database 1 pages.now) card.old result card.new }
-    ensures read { RecordedIn (contents (C.Card.holds card.old name.now)) pages.now result buffer.new }
+    ensures went { Went C.Card.meaning (read_tasks name.now database 1 pages.now) card.old result card.new }
+    ensures read { RecordedIn (contents (C.Card.meaning.holds card.old name.now)) pages.now result buffer.new }
 {
     for index in 0..pages.len() {
         read_original(card, name, database, pages[index], index, buffer)?;

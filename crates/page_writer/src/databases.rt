@@ -24,7 +24,7 @@ pub fn write_pages<C: Card>(
     database: usize,
 ) -> Result<(), SetFault>
     requires known { database < memory.now.count }
-    ensures { (stored : ℕ → List ℕ) → Went (record { on = C.Card.on; holds = C.Card.holds; remains = C.Card.remains; origins = C.Card.origins }) (write_tasks (named names.now.rows names.now.lens names.now.count database) database (pages_held stored memory.now database) ++ (call (named names.now.rows names.now.lens names.now.count) C3 database syncs ∷ [])) card.old result card.new }
+    ensures { (stored : ℕ → List ℕ) → Went C.Card.meaning (write_tasks (named names.now.rows names.now.lens names.now.count database) database (pages_held stored memory.now database) ++ (call (named names.now.rows names.now.lens names.now.count) C3 database syncs ∷ [])) card.old result card.new }
 {
     let file = names.file(database);
     let site = Site::new(Step::C3, database);

@@ -30,8 +30,8 @@ fn pages_of(length: Option<u32>) -> Option<u32>
 
 /// How many pages a database has.
 fn measure_one<C: Card>(card: &mut C, names: &Names, d: usize) -> Result<u32, Refusal>
-    ensures looked { Looked (record { on = C.Card.on; holds = C.Card.holds; remains = C.Card.remains; origins = C.Card.origins }) R4 (file_of names.now) card.old (dropped result) card.new }
-    ensures told { Told result (HasPages (C.Card.holds card.old (file_of names.now d))) never₂ never (λ i. (i ≡ d) × NoPages (C.Card.holds card.old (file_of names.now d))) }
+    ensures looked { Looked C.Card.meaning R4 (file_of names.now) card.old (dropped result) card.new }
+    ensures told { Told result (HasPages (C.Card.meaning.holds card.old (file_of names.now d))) never₂ never (λ i. (i ≡ d) × NoPages (C.Card.meaning.holds card.old (file_of names.now d))) }
 {
     let Some(pages) = pages_of(length_of(card, names, Step::R4, d)?) else {
         return Err(Refusal::Database(d));
@@ -41,8 +41,8 @@ fn measure_one<C: Card>(card: &mut C, names: &Names, d: usize) -> Result<u32, Re
 
 /// How many pages each database has; 1 for one that the set has not.
 pub(crate) fn measure<C: Card>(card: &mut C, names: &Names) -> Result<[u32; DATABASES], Refusal>
-    ensures looked { Looked (record { on = C.Card.on; holds = C.Card.holds; remains = C.Card.remains; origins = C.Card.origins }) R4 (file_of names.now) card.old (dropped result) card.new }
-    ensures told { Measured (C.Card.holds card.old) (file_of names.now) names.now.count result }
+    ensures looked { Looked C.Card.meaning R4 (file_of names.now) card.old (dropped result) card.new }
+    ensures told { Measured (C.Card.meaning.holds card.old) (file_of names.now) names.now.count result }
 {
     let mut sizes = [1u32; DATABASES];
     for d in 0..names.count() {

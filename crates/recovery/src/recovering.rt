@@ -19,7 +19,7 @@ pub fn recover<C: Card>(
     names: &Names,
     buffer: &mut [u8; JOURNAL_LIMIT],
 ) -> Result<Recovery, Refusal>
-    ensures { Recovered (record { on = C.Card.on; holds = C.Card.holds; remains = C.Card.remains; origins = C.Card.origins }) (file_of names.now) names.now.count card.old result card.new }
+    ensures { Recovered C.Card.meaning (file_of names.now) names.now.count card.old result card.new }
 {
     card.power();
     let found = survey(card, names, buffer)?;

@@ -18,8 +18,8 @@ pub fn length_of<C: Card>(
     step: Step,
     file: usize,
 ) -> Result<Option<u32>, SetFault>
-    ensures went { Went (record { on = C.Card.on; holds = C.Card.holds; remains = C.Card.remains; origins = C.Card.origins }) (task (record { step = Some step; file = file; «record» = 0 }) (file_of names.now file) length_of ∷ []) card.old result card.new }
-    ensures told { ToldLength (C.Card.holds card.old (file_of names.now file)) result }
+    ensures went { Went C.Card.meaning (task (record { step = Some step; file = file; «record» = 0 }) (file_of names.now file) length_of ∷ []) card.old result card.new }
+    ensures told { ToldLength (C.Card.meaning.holds card.old (file_of names.now file)) result }
 {
     let name = names.file(file);
     Site::new(step, file).length(card, name.bytes())
@@ -32,7 +32,7 @@ pub fn delete_file<C: Card>(
     step: Step,
     file: usize,
 ) -> Result<(), SetFault>
-    ensures { Went (record { on = C.Card.on; holds = C.Card.holds; remains = C.Card.remains; origins = C.Card.origins }) (task (record { step = Some step; file = file; «record» = 0 }) (file_of names.now file) deletes ∷ []) card.old result card.new }
+    ensures { Went C.Card.meaning (task (record { step = Some step; file = file; «record» = 0 }) (file_of names.now file) deletes ∷ []) card.old result card.new }
 {
     let name = names.file(file);
     Site::new(step, file).delete(card, name.bytes())
@@ -46,8 +46,8 @@ pub fn judge_numbered<C: Card>(
     file: usize,
     buffer: &mut [u8; JOURNAL_LIMIT],
 ) -> Result<Option<Verdict>, SetFault>
-    ensures went { Went (record { on = C.Card.on; holds = C.Card.holds; remains = C.Card.remains; origins = C.Card.origins }) (tasks (record { step = Some step; file = file; «record» = 0 }) (judge_acts (file_of names.now file) (C.Card.holds card.old (file_of names.now file)))) card.old result card.new }
-    ensures told { ToldVerdict (C.Card.holds card.old (file_of names.now file)) buffer.old result buffer.new }
+    ensures went { Went C.Card.meaning (tasks (record { step = Some step; file = file; «record» = 0 }) (judge_acts (file_of names.now file) (C.Card.meaning.holds card.old (file_of names.now file)))) card.old result card.new }
+    ensures told { ToldVerdict (C.Card.meaning.holds card.old (file_of names.now file)) buffer.old result buffer.new }
 {
     let name = names.file(file);
     Site::new(step, file).told(judge_file(card, name.bytes(), buffer))

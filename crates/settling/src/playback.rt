@@ -27,7 +27,7 @@ fn write_record<C: Card>(
     index: u32,
 ) -> Result<(), SetFault>
     requires { (j : Journal) × Of bytes.now sound.now j × (index < count_of j.records) }
-    ensures { (j : Journal) → Of bytes.now sound.now j → Went (record { on = C.Card.on; holds = C.Card.holds; remains = C.Card.remains; origins = C.Card.origins }) (record_task (file_of names.now) d j index ∷ []) card.old result card.new }
+    ensures { (j : Journal) → Of bytes.now sound.now j → Went C.Card.meaning (record_task (file_of names.now) d j index ∷ []) card.old result card.new }
 {
     let Some(number) = sound.page_number(bytes, index) else {
         unreachable()
@@ -53,7 +53,7 @@ fn write_records<C: Card>(
     sound: &Sound,
 ) -> Result<(), SetFault>
     requires { (j : Journal) × Of bytes.now sound.now j }
-    ensures { (j : Journal) → Of bytes.now sound.now j → Went (record { on = C.Card.on; holds = C.Card.holds; remains = C.Card.remains; origins = C.Card.origins }) (write_tasks (file_of names.now) d j) card.old result card.new }
+    ensures { (j : Journal) → Of bytes.now sound.now j → Went C.Card.meaning (write_tasks (file_of names.now) d j) card.old result card.new }
 {
     for index in 0..sound.count {
         write_record(card, names, d, bytes, sound, index)?;
@@ -65,7 +65,7 @@ fn write_records<C: Card>(
 fn finish<C: Card>(card: &mut C, names: &Names, d: usize, size: u32) -> Result<(), SetFault>
     requires few { d < 4 }
     requires small { size ≤ 4096 }
-    ensures { Went (record { on = C.Card.on; holds = C.Card.holds; remains = C.Card.remains; origins = C.Card.origins }) (finish_tasks (file_of names.now) d size) card.old result card.new }
+    ensures { Went C.Card.meaning (finish_tasks (file_of names.now) d size) card.old result card.new }
 {
     let name = names.file(d);
     let site = Site::new(Step::R2, d);
@@ -82,9 +82,9 @@ fn reread<C: Card>(
     buffer: &mut [u8; JOURNAL_LIMIT],
 ) -> Result<Sound, SetFault>
     requires few { d < 4 }
-    requires hot { (j : Journal) × LawfulJournal j × (C.Card.holds card.old (file_of names.now (4 + d)) ≡ Some (full j)) }
-    ensures went { (j : Journal) → LawfulJournal j → C.Card.holds card.old (file_of names.now (4 + d)) ≡ Some (full j) → Went (record { on = C.Card.on; holds = C.Card.holds; remains = C.Card.remains; origins = C.Card.origins }) (tasks (place_of R2 (4 + d) 0) (judge_acts (file_of names.now (4 + d)) (Some (full j)))) card.old result card.new }
-    ensures told { IfOk result (λ s. (j : Journal) → LawfulJournal j → C.Card.holds card.old (file_of names.now (4 + d)) ≡ Some (full j) → Parts s j × (buffer.new ≡ overwrite buffer.old 0 (full j))) }
+    requires hot { (j : Journal) × LawfulJournal j × (C.Card.meaning.holds card.old (file_of names.now (4 + d)) ≡ Some (full j)) }
+    ensures went { (j : Journal) → LawfulJournal j → C.Card.meaning.holds card.old (file_of names.now (4 + d)) ≡ Some (full j) → Went C.Card.meaning (tasks (place_of R2 (4 + d) 0) (judge_acts (file_of names.now (4 + d)) (Some (full j)))) card.old result card.new }
+    ensures told { IfOk result (λ s. (j : Journal) → LawfulJournal j → C.Card.meaning.holds card.old (file_of names.now (4 + d)) ≡ Some (full j) → Parts s j × (buffer.new ≡ overwrite buffer.old 0 (full j))) }
 {
     let Some(verdict) = judge_numbered(card, names, Step::R2, DATABASES + d, buffer)? else {
         unreachable()
@@ -103,8 +103,8 @@ pub(crate) fn play<C: Card>(
     buffer: &mut [u8; JOURNAL_LIMIT],
 ) -> Result<(), SetFault>
     requires few { d < 4 }
-    requires hot { (j : Journal) × LawfulJournal j × (C.Card.holds card.old (file_of names.now (4 + d)) ≡ Some (full j)) }
-    ensures { (j : Journal) → LawfulJournal j → C.Card.holds card.old (file_of names.now (4 + d)) ≡ Some (full j) → Went (record { on = C.Card.on; holds = C.Card.holds; remains = C.Card.remains; origins = C.Card.origins }) (hot_tasks (file_of names.now) d j) card.old result card.new }
+    requires hot { (j : Journal) × LawfulJournal j × (C.Card.meaning.holds card.old (file_of names.now (4 + d)) ≡ Some (full j)) }
+    ensures { (j : Journal) → LawfulJournal j → C.Card.meaning.holds card.old (file_of names.now (4 + d)) ≡ Some (full j) → Went C.Card.meaning (hot_tasks (file_of names.now) d j) card.old result card.new }
 {
     let sound = reread(card, names, d, buffer)?;
     write_records(card, names, d, journal_in(buffer, &sound), &sound)?;

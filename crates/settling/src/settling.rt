@@ -22,8 +22,8 @@ fn restore<C: Card>(
     buffer: &mut [u8; JOURNAL_LIMIT],
 ) -> Result<(), SetFault>
     requires few { d < 4 }
-    requires seen { (s : Seen) × Stands (C.Card.holds card.old) (file_of names.now) d s × FoundOf s found }
-    ensures { (s : Seen) → Stands (C.Card.holds card.old) (file_of names.now) d s → FoundOf s found → Went (record { on = C.Card.on; holds = C.Card.holds; remains = C.Card.remains; origins = C.Card.origins }) (restore_tasks (file_of names.now) d s) card.old result card.new }
+    requires seen { (s : Seen) × Stands (C.Card.meaning.holds card.old) (file_of names.now) d s × FoundOf s found }
+    ensures { (s : Seen) → Stands (C.Card.meaning.holds card.old) (file_of names.now) d s → FoundOf s found → Went C.Card.meaning (restore_tasks (file_of names.now) d s) card.old result card.new }
 {
     match found {
         Found::None => Ok(()),
@@ -34,7 +34,7 @@ fn restore<C: Card>(
 
 /// Deletes the super-journal, if it is present.
 fn delete_super<C: Card>(card: &mut C, names: &Names) -> Result<(), SetFault>
-    ensures { Went (record { on = C.Card.on; holds = C.Card.holds; remains = C.Card.remains; origins = C.Card.origins }) (super_tasks (file_of names.now) (C.Card.holds card.old (file_of names.now 8))) card.old result card.new }
+    ensures { Went C.Card.meaning (super_tasks (file_of names.now) (C.Card.meaning.holds card.old (file_of names.now 8))) card.old result card.new }
 {
     let Some(_) = length_of(card, names, Step::R3, SUPER_JOURNAL)? else {
         return Ok(());
@@ -49,8 +49,8 @@ fn restore_all<C: Card>(
     found: &[Found; DATABASES],
     buffer: &mut [u8; JOURNAL_LIMIT],
 ) -> Result<(), SetFault>
-    requires { (seen : ℕ → Seen) × AllSeen (C.Card.holds card.old) (file_of names.now) names.now.count found.now seen }
-    ensures { (seen : ℕ → Seen) → AllSeen (C.Card.holds card.old) (file_of names.now) names.now.count found.now seen → Went (record { on = C.Card.on; holds = C.Card.holds; remains = C.Card.remains; origins = C.Card.origins }) (all_tasks (file_of names.now) names.now.count seen) card.old result card.new }
+    requires { (seen : ℕ → Seen) × AllSeen (C.Card.meaning.holds card.old) (file_of names.now) names.now.count found.now seen }
+    ensures { (seen : ℕ → Seen) → AllSeen (C.Card.meaning.holds card.old) (file_of names.now) names.now.count found.now seen → Went C.Card.meaning (all_tasks (file_of names.now) names.now.count seen) card.old result card.new }
 {
     for d in 0..names.count() {
         restore(card, names, d, found[d], buffer)?;
@@ -67,8 +67,8 @@ pub fn settle<C: Card>(
     found: &[Found; DATABASES],
     buffer: &mut [u8; JOURNAL_LIMIT],
 ) -> Result<(), SetFault>
-    requires { (seen : ℕ → Seen) × AllSeen (C.Card.holds card.old) (file_of names.now) names.now.count found.now seen }
-    ensures { (seen : ℕ → Seen) → AllSeen (C.Card.holds card.old) (file_of names.now) names.now.count found.now seen → Went (record { on = C.Card.on; holds = C.Card.holds; remains = C.Card.remains; origins = C.Card.origins }) (settle_tasks (file_of names.now) names.now.count seen (C.Card.holds card.old (file_of names.now 8))) card.old result card.new }
+    requires { (seen : ℕ → Seen) × AllSeen (C.Card.meaning.holds card.old) (file_of names.now) names.now.count found.now seen }
+    ensures { (seen : ℕ → Seen) → AllSeen (C.Card.meaning.holds card.old) (file_of names.now) names.now.count found.now seen → Went C.Card.meaning (settle_tasks (file_of names.now) names.now.count seen (C.Card.meaning.holds card.old (file_of names.now 8))) card.old result card.new }
 {
     restore_all(card, names, found, buffer)?;
     delete_super(card, names)

@@ -10,8 +10,8 @@ use refusal::SetFault;
 impl Site {
     /// How many bytes the file holds, or none if it is absent.
     pub fn length<C: Card>(self, card: &mut C, name: &[u8]) -> Result<Option<u32>, SetFault>
-        ensures went { Went (record { on = C.Card.on; holds = C.Card.holds; remains = C.Card.remains; origins = C.Card.origins }) (task self name.now length_of ∷ []) card.old result card.new }
-        ensures told { ToldLength (C.Card.holds card.old name.now) result }
+        ensures went { Went C.Card.meaning (task self name.now length_of ∷ []) card.old result card.new }
+        ensures told { ToldLength (C.Card.meaning.holds card.old name.now) result }
     {
         self.told_card(card.length(name))
     }
@@ -24,15 +24,15 @@ impl Site {
         place: u32,
         buffer: &mut [u8],
     ) -> Result<(), SetFault>
-        ensures went { Went (record { on = C.Card.on; holds = C.Card.holds; remains = C.Card.remains; origins = C.Card.origins }) (task self name.now (reads place (count buffer.old)) ∷ []) card.old result card.new }
-        ensures told { ToldBytes (C.Card.holds card.old name.now) place buffer.old result buffer.new }
+        ensures went { Went C.Card.meaning (task self name.now (reads place (count buffer.old)) ∷ []) card.old result card.new }
+        ensures told { ToldBytes (C.Card.meaning.holds card.old name.now) place buffer.old result buffer.new }
     {
         self.told_card(card.read(name, place, buffer))
     }
 
     /// Makes an absent file present and empty.
     pub fn create<C: Card>(self, card: &mut C, name: &[u8]) -> Result<(), SetFault>
-        ensures { Went (record { on = C.Card.on; holds = C.Card.holds; remains = C.Card.remains; origins = C.Card.origins }) (task self name.now creates ∷ []) card.old result card.new }
+        ensures { Went C.Card.meaning (task self name.now creates ∷ []) card.old result card.new }
     {
         self.told_card(card.create(name))
     }
@@ -45,28 +45,28 @@ impl Site {
         place: u32,
         bytes: &[u8],
     ) -> Result<(), SetFault>
-        ensures { Went (record { on = C.Card.on; holds = C.Card.holds; remains = C.Card.remains; origins = C.Card.origins }) (task self name.now (writes place bytes.now) ∷ []) card.old result card.new }
+        ensures { Went C.Card.meaning (task self name.now (writes place bytes.now) ∷ []) card.old result card.new }
     {
         self.told_card(card.write(name, place, bytes))
     }
 
     /// Cuts the file, or fills it with zeros, to a length.
     pub fn set_length<C: Card>(self, card: &mut C, name: &[u8], length: u32) -> Result<(), SetFault>
-        ensures { Went (record { on = C.Card.on; holds = C.Card.holds; remains = C.Card.remains; origins = C.Card.origins }) (task self name.now (set_length length) ∷ []) card.old result card.new }
+        ensures { Went C.Card.meaning (task self name.now (set_length length) ∷ []) card.old result card.new }
     {
         self.told_card(card.set_length(name, length))
     }
 
     /// Leaves only what the file holds now as what may remain of it.
     pub fn sync<C: Card>(self, card: &mut C, name: &[u8]) -> Result<(), SetFault>
-        ensures { Went (record { on = C.Card.on; holds = C.Card.holds; remains = C.Card.remains; origins = C.Card.origins }) (task self name.now syncs ∷ []) card.old result card.new }
+        ensures { Went C.Card.meaning (task self name.now syncs ∷ []) card.old result card.new }
     {
         self.told_card(card.sync(name))
     }
 
     /// Makes a present file absent.
     pub fn delete<C: Card>(self, card: &mut C, name: &[u8]) -> Result<(), SetFault>
-        ensures { Went (record { on = C.Card.on; holds = C.Card.holds; remains = C.Card.remains; origins = C.Card.origins }) (task self name.now deletes ∷ []) card.old result card.new }
+        ensures { Went C.Card.meaning (task self name.now deletes ∷ []) card.old result card.new }
     {
         self.told_card(card.delete(name))
     }

@@ -31,8 +31,8 @@ fn look_at_super<C: Card>(
     records: u32,
     name: &[u8],
 ) -> Result<Look, Refusal>
-    ensures looked { Looked (record { on = C.Card.on; holds = C.Card.holds; remains = C.Card.remains; origins = C.Card.origins }) R1 (file_of names.now) card.old (dropped result) card.new }
-    ensures told { Told result (SuperLook (C.Card.holds card.old) (file_of names.now) records name.now) never₂ never never }
+    ensures looked { Looked C.Card.meaning R1 (file_of names.now) card.old (dropped result) card.new }
+    ensures told { Told result (SuperLook (C.Card.meaning.holds card.old) (file_of names.now) records name.now) never₂ never never }
 {
     if is_ours(names, name) {
         let Some(_) = Site::new(Step::R1, SUPER_JOURNAL).length(card, name)? else {
@@ -66,8 +66,8 @@ fn judge_journal<C: Card>(
     buffer: &mut [u8; JOURNAL_LIMIT],
 ) -> Result<Look, Refusal>
     requires { d < 4 }
-    ensures looked { Looked (record { on = C.Card.on; holds = C.Card.holds; remains = C.Card.remains; origins = C.Card.origins }) R1 (file_of names.now) card.old (dropped result) card.new }
-    ensures told { Told result (λ x. LookedAs (C.Card.holds card.old) (file_of names.now) d x.found x.link) (λ f k. (f ≡ 4 + d) × DamagedAt (C.Card.holds card.old) (file_of names.now) d k) never never }
+    ensures looked { Looked C.Card.meaning R1 (file_of names.now) card.old (dropped result) card.new }
+    ensures told { Told result (λ x. LookedAs (C.Card.meaning.holds card.old) (file_of names.now) d x.found x.link) (λ f k. (f ≡ 4 + d) × DamagedAt (C.Card.meaning.holds card.old) (file_of names.now) d k) never never }
 {
     let Some(verdict) = judge_numbered(card, names, Step::R1, DATABASES + d, buffer)? else {
         return Ok(Look {
@@ -102,8 +102,8 @@ pub(crate) fn judge_journals<C: Card>(
     names: &Names,
     buffer: &mut [u8; JOURNAL_LIMIT],
 ) -> Result<Journals, Refusal>
-    ensures looked { Looked (record { on = C.Card.on; holds = C.Card.holds; remains = C.Card.remains; origins = C.Card.origins }) R1 (file_of names.now) card.old (dropped result) card.new }
-    ensures told { Told result (λ x. AllLooked (C.Card.holds card.old) (file_of names.now) names.now.count x.found x.links) (λ f k. (d : ℕ) × (f ≡ 4 + d) × (d < names.now.count) × ((i : ℕ) → i < d → (s : Seen) × SeenAs (C.Card.holds card.old) (file_of names.now) i s) × DamagedAt (C.Card.holds card.old) (file_of names.now) d k) never never }
+    ensures looked { Looked C.Card.meaning R1 (file_of names.now) card.old (dropped result) card.new }
+    ensures told { Told result (λ x. AllLooked (C.Card.meaning.holds card.old) (file_of names.now) names.now.count x.found x.links) (λ f k. (d : ℕ) × (f ≡ 4 + d) × (d < names.now.count) × ((i : ℕ) → i < d → (s : Seen) × SeenAs (C.Card.meaning.holds card.old) (file_of names.now) i s) × DamagedAt (C.Card.meaning.holds card.old) (file_of names.now) d k) never never }
 {
     let mut found = [Found::None; DATABASES];
     let mut links = [Link::None; DATABASES];

@@ -28,8 +28,8 @@ fn name_at(bytes: &[u8], span: Span) -> &[u8]
 
 /// Tests that a listed file is a journal of the set, or absent.
 fn check_listed<C: Card>(card: &mut C, names: &Names, name: &[u8]) -> Result<(), Refusal>
-    ensures looked { Looked (record { on = C.Card.on; holds = C.Card.holds; remains = C.Card.remains; origins = C.Card.origins }) R1 (file_of names.now) card.old (dropped result) card.new }
-    ensures told { Told result (λ _. JournalName (file_of names.now) names.now.count name.now ⊎ (C.Card.holds card.old name.now ≡ None)) never₂ (λ f. (f ≡ 9) × (JournalName (file_of names.now) names.now.count name.now → ⊥) × Present (C.Card.holds card.old name.now)) never }
+    ensures looked { Looked C.Card.meaning R1 (file_of names.now) card.old (dropped result) card.new }
+    ensures told { Told result (λ _. JournalName (file_of names.now) names.now.count name.now ⊎ (C.Card.meaning.holds card.old name.now ≡ None)) never₂ (λ f. (f ≡ 9) × (JournalName (file_of names.now) names.now.count name.now → ⊥) × Present (C.Card.meaning.holds card.old name.now)) never }
 {
     if names.is_journal(name) {
         return Ok(());
@@ -48,8 +48,8 @@ fn check_names<C: Card>(
     places: &[Span],
 ) -> Result<(), Refusal>
     requires { LawfulNames (lying_at bytes.now places.now) }
-    ensures looked { Looked (record { on = C.Card.on; holds = C.Card.holds; remains = C.Card.remains; origins = C.Card.origins }) R1 (file_of names.now) card.old (dropped result) card.new }
-    ensures told { Told result (λ _. AllFine (C.Card.holds card.old) (file_of names.now) names.now.count (lying_at bytes.now places.now)) never₂ (λ f. (f ≡ 9) × Stray (C.Card.holds card.old) (file_of names.now) names.now.count (lying_at bytes.now places.now)) never }
+    ensures looked { Looked C.Card.meaning R1 (file_of names.now) card.old (dropped result) card.new }
+    ensures told { Told result (λ _. AllFine (C.Card.meaning.holds card.old) (file_of names.now) names.now.count (lying_at bytes.now places.now)) never₂ (λ f. (f ≡ 9) × Stray (C.Card.meaning.holds card.old) (file_of names.now) names.now.count (lying_at bytes.now places.now)) never }
 {
     for i in 0..places.len() {
         check_listed(card, names, name_at(bytes, places[i]))?;
@@ -59,8 +59,8 @@ fn check_names<C: Card>(
 
 /// Tests that the bytes are a list of names, and each file of it.
 fn check_list<C: Card>(card: &mut C, names: &Names, bytes: &[u8]) -> Result<(), Refusal>
-    ensures looked { Looked (record { on = C.Card.on; holds = C.Card.holds; remains = C.Card.remains; origins = C.Card.origins }) R1 (file_of names.now) card.old (dropped result) card.new }
-    ensures told { Told result (λ _. (ns : List Name) × Listed (C.Card.holds card.old) (file_of names.now) names.now.count bytes.now ns) (λ f k. (f ≡ 8) × (k ≡ 0) × NoNames bytes.now) (λ f. (f ≡ 9) × ((ns : List Name) × Strays (C.Card.holds card.old) (file_of names.now) names.now.count bytes.now ns)) never }
+    ensures looked { Looked C.Card.meaning R1 (file_of names.now) card.old (dropped result) card.new }
+    ensures told { Told result (λ _. (ns : List Name) × Listed (C.Card.meaning.holds card.old) (file_of names.now) names.now.count bytes.now ns) (λ f k. (f ≡ 8) × (k ≡ 0) × NoNames bytes.now) (λ f. (f ≡ 9) × ((ns : List Name) × Strays (C.Card.meaning.holds card.old) (file_of names.now) names.now.count bytes.now ns)) never }
 {
     let Some(list) = read_names(bytes) else {
         return Err(Refusal::Damaged {
@@ -78,9 +78,9 @@ fn read_super<C: Card>(
     names: &Names,
     buffer: &mut [u8; JOURNAL_LIMIT],
 ) -> Result<Option<usize>, SetFault>
-    requires { Present (C.Card.holds card.old (file_of names.now 8)) }
-    ensures looked { Looked (record { on = C.Card.on; holds = C.Card.holds; remains = C.Card.remains; origins = C.Card.origins }) R1 (file_of names.now) card.old (ended result) card.new }
-    ensures told { IfOk result (λ o. (b : List ℕ) × (C.Card.holds card.old (file_of names.now 8) ≡ Some b) × MatchOption o (17724 < count_of b) (λ n. (n ≡ count_of b) × (n ≤ 17724) × (take n buffer.new ≡ b))) }
+    requires { Present (C.Card.meaning.holds card.old (file_of names.now 8)) }
+    ensures looked { Looked C.Card.meaning R1 (file_of names.now) card.old (ended result) card.new }
+    ensures told { IfOk result (λ o. (b : List ℕ) × (C.Card.meaning.holds card.old (file_of names.now 8) ≡ Some b) × MatchOption o (17724 < count_of b) (λ n. (n ≡ count_of b) × (n ≤ 17724) × (take n buffer.new ≡ b))) }
 {
     let Some(length) = length_of(card, names, Step::R1, SUPER_JOURNAL)? else {
         unreachable()
@@ -100,9 +100,9 @@ pub(crate) fn check_super<C: Card>(
     names: &Names,
     buffer: &mut [u8; JOURNAL_LIMIT],
 ) -> Result<(), Refusal>
-    requires { Present (C.Card.holds card.old (file_of names.now 8)) }
-    ensures looked { Looked (record { on = C.Card.on; holds = C.Card.holds; remains = C.Card.remains; origins = C.Card.origins }) R1 (file_of names.now) card.old (dropped result) card.new }
-    ensures told { Told result (λ _. (b : List ℕ) × (C.Card.holds card.old (file_of names.now 8) ≡ Some b) × ((ns : List Name) × Listed (C.Card.holds card.old) (file_of names.now) names.now.count b ns)) (λ f k. (f ≡ 8) × (k ≡ 0) × ((b : List ℕ) × (C.Card.holds card.old (file_of names.now 8) ≡ Some b) × NoNames b)) (λ f. (f ≡ 9) × ((b : List ℕ) × (C.Card.holds card.old (file_of names.now 8) ≡ Some b) × ((ns : List Name) × Strays (C.Card.holds card.old) (file_of names.now) names.now.count b ns))) never }
+    requires { Present (C.Card.meaning.holds card.old (file_of names.now 8)) }
+    ensures looked { Looked C.Card.meaning R1 (file_of names.now) card.old (dropped result) card.new }
+    ensures told { Told result (λ _. (b : List ℕ) × (C.Card.meaning.holds card.old (file_of names.now 8) ≡ Some b) × ((ns : List Name) × Listed (C.Card.meaning.holds card.old) (file_of names.now) names.now.count b ns)) (λ f k. (f ≡ 8) × (k ≡ 0) × ((b : List ℕ) × (C.Card.meaning.holds card.old (file_of names.now 8) ≡ Some b) × NoNames b)) (λ f. (f ≡ 9) × ((b : List ℕ) × (C.Card.meaning.holds card.old (file_of names.now 8) ≡ Some b) × ((ns : List Name) × Strays (C.Card.meaning.holds card.old) (file_of names.now) names.now.count b ns))) never }
 {
     let Some(length) = read_super(card, names, buffer)? else {
         return Err(Refusal::Damaged {

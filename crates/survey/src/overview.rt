@@ -22,8 +22,8 @@ pub fn survey<C: Card>(
     names: &Names,
     buffer: &mut [u8; JOURNAL_LIMIT],
 ) -> Result<[Found; DATABASES], Refusal>
-    ensures looked { Looked (record { on = C.Card.on; holds = C.Card.holds; remains = C.Card.remains; origins = C.Card.origins }) R1 (file_of names.now) card.old (dropped result) card.new }
-    ensures told { Finds (C.Card.holds card.old) (file_of names.now) names.now.count result }
+    ensures looked { Looked C.Card.meaning R1 (file_of names.now) card.old (dropped result) card.new }
+    ensures told { Finds (C.Card.meaning.holds card.old) (file_of names.now) names.now.count result }
 {
     all_present(card, names)?;
     let journals = judge_journals(card, names, buffer)?;

@@ -11,8 +11,8 @@ use set_files::length_of;
 
 /// Tests that each database is present, in order.
 pub(crate) fn all_present<C: Card>(card: &mut C, names: &Names) -> Result<(), Refusal>
-    ensures looked { Looked (record { on = C.Card.on; holds = C.Card.holds; remains = C.Card.remains; origins = C.Card.origins }) R1 (file_of names.now) card.old (dropped result) card.new }
-    ensures told { Told result (λ _. AllPresent (C.Card.holds card.old) (file_of names.now) names.now.count) never₂ never (FirstAbsent (C.Card.holds card.old) (file_of names.now) names.now.count) }
+    ensures looked { Looked C.Card.meaning R1 (file_of names.now) card.old (dropped result) card.new }
+    ensures told { Told result (λ _. AllPresent (C.Card.meaning.holds card.old) (file_of names.now) names.now.count) never₂ never (FirstAbsent (C.Card.meaning.holds card.old) (file_of names.now) names.now.count) }
 {
     for d in 0..names.count() {
         let Some(_) = length_of(card, names, Step::R1, d)? else {

@@ -94,7 +94,7 @@ fn device(call: CardCall, origin: u8) -> CardFault
 impl<C: Card> TroubleLayer<C> {
     /// Counts a call, and tells whether the layer refuses it: with power on, if its number is given.
     fn troubles(&mut self) -> bool
-        ensures is { result ≡ C.Card.on self.old.below && listed (next_call self.old.calls) (take self.old.count self.old.given) }
+        ensures is { result ≡ C.Card.meaning.on self.old.below && listed (next_call self.old.calls) (take self.old.count self.old.given) }
         ensures below { self.new.below ≡ self.old.below }
         ensures given { self.new.given ≡ self.old.given }
         ensures count { self.new.count ≡ self.old.count }
@@ -108,18 +108,12 @@ impl<C: Card> TroubleLayer<C> {
 }
 
 impl<C: Card> Card for TroubleLayer<C> {
-    ghost on = { λ l. C.Card.on l.below };
-
-    ghost holds = { λ l n. C.Card.holds l.below n };
-
-    ghost remains = { λ l n b. C.Card.remains l.below n b };
-
-    ghost origins = { λ l o. (o ≡ l.origin) ⊎ C.Card.origins l.below o };
+    ghost meaning = { layered C.Card.meaning (λ l. l.below) (λ l. l.origin) };
 
     fn length(&mut self, name: &[u8]) -> Result<Option<u32>, CardFault>
-        ensures answered { Answered (layered (record { on = C.Card.on; holds = C.Card.holds; remains = C.Card.remains; origins = C.Card.origins }) (λ l. l.below) (λ l. l.origin)) self.old name.now length_of result self.new }
-        ensures told { ToldLength (C.Card.holds self.old.below name.now) result }
-        ensures troubled { Troubled (record { on = C.Card.on; holds = C.Card.holds; remains = C.Card.remains; origins = C.Card.origins }) length_of name.now self.new.calls (take self.old.count self.old.given) self.old.origin self.old.below result self.new.below }
+        ensures answered { Answered (layered C.Card.meaning (λ l. l.below) (λ l. l.origin)) self.old name.now length_of result self.new }
+        ensures told { ToldLength (C.Card.meaning.holds self.old.below name.now) result }
+        ensures troubled { Troubled C.Card.meaning length_of name.now self.new.calls (take self.old.count self.old.given) self.old.origin self.old.below result self.new.below }
         ensures layer { (self.new.calls ≡ next_call self.old.calls) × (take self.new.count self.new.given ≡ take self.old.count self.old.given) × (self.new.origin ≡ self.old.origin) }
     {
         if self.troubles() {
@@ -129,9 +123,9 @@ impl<C: Card> Card for TroubleLayer<C> {
     }
 
     fn read(&mut self, name: &[u8], place: u32, buffer: &mut [u8]) -> Result<(), CardFault>
-        ensures answered { Answered (layered (record { on = C.Card.on; holds = C.Card.holds; remains = C.Card.remains; origins = C.Card.origins }) (λ l. l.below) (λ l. l.origin)) self.old name.now (reading place (count buffer.old)) result self.new }
-        ensures told { ToldBytes (C.Card.holds self.old.below name.now) place buffer.old result buffer.new }
-        ensures troubled { Troubled (record { on = C.Card.on; holds = C.Card.holds; remains = C.Card.remains; origins = C.Card.origins }) (reading place (count buffer.old)) name.now self.new.calls (take self.old.count self.old.given) self.old.origin self.old.below result self.new.below }
+        ensures answered { Answered (layered C.Card.meaning (λ l. l.below) (λ l. l.origin)) self.old name.now (reading place (count buffer.old)) result self.new }
+        ensures told { ToldBytes (C.Card.meaning.holds self.old.below name.now) place buffer.old result buffer.new }
+        ensures troubled { Troubled C.Card.meaning (reading place (count buffer.old)) name.now self.new.calls (take self.old.count self.old.given) self.old.origin self.old.below result self.new.below }
         ensures layer { (self.new.calls ≡ next_call self.old.calls) × (take self.new.count self.new.given ≡ take self.old.count self.old.given) × (self.new.origin ≡ self.old.origin) }
     {
         if self.troubles() {
@@ -141,8 +135,8 @@ impl<C: Card> Card for TroubleLayer<C> {
     }
 
     fn create(&mut self, name: &[u8]) -> Result<(), CardFault>
-        ensures answered { Answered (layered (record { on = C.Card.on; holds = C.Card.holds; remains = C.Card.remains; origins = C.Card.origins }) (λ l. l.below) (λ l. l.origin)) self.old name.now creating result self.new }
-        ensures troubled { Troubled (record { on = C.Card.on; holds = C.Card.holds; remains = C.Card.remains; origins = C.Card.origins }) creating name.now self.new.calls (take self.old.count self.old.given) self.old.origin self.old.below result self.new.below }
+        ensures answered { Answered (layered C.Card.meaning (λ l. l.below) (λ l. l.origin)) self.old name.now creating result self.new }
+        ensures troubled { Troubled C.Card.meaning creating name.now self.new.calls (take self.old.count self.old.given) self.old.origin self.old.below result self.new.below }
         ensures layer { (self.new.calls ≡ next_call self.old.calls) × (take self.new.count self.new.given ≡ take self.old.count self.old.given) × (self.new.origin ≡ self.old.origin) }
     {
         if self.troubles() {
@@ -152,8 +146,8 @@ impl<C: Card> Card for TroubleLayer<C> {
     }
 
     fn write(&mut self, name: &[u8], place: u32, bytes: &[u8]) -> Result<(), CardFault>
-        ensures answered { Answered (layered (record { on = C.Card.on; holds = C.Card.holds; remains = C.Card.remains; origins = C.Card.origins }) (λ l. l.below) (λ l. l.origin)) self.old name.now (writing place bytes.now) result self.new }
-        ensures troubled { Troubled (record { on = C.Card.on; holds = C.Card.holds; remains = C.Card.remains; origins = C.Card.origins }) (writing place bytes.now) name.now self.new.calls (take self.old.count self.old.given) self.old.origin self.old.below result self.new.below }
+        ensures answered { Answered (layered C.Card.meaning (λ l. l.below) (λ l. l.origin)) self.old name.now (writing place bytes.now) result self.new }
+        ensures troubled { Troubled C.Card.meaning (writing place bytes.now) name.now self.new.calls (take self.old.count self.old.given) self.old.origin self.old.below result self.new.below }
         ensures layer { (self.new.calls ≡ next_call self.old.calls) × (take self.new.count self.new.given ≡ take self.old.count self.old.given) × (self.new.origin ≡ self.old.origin) }
     {
         if self.troubles() {
@@ -163,8 +157,8 @@ impl<C: Card> Card for TroubleLayer<C> {
     }
 
     fn set_length(&mut self, name: &[u8], length: u32) -> Result<(), CardFault>
-        ensures answered { Answered (layered (record { on = C.Card.on; holds = C.Card.holds; remains = C.Card.remains; origins = C.Card.origins }) (λ l. l.below) (λ l. l.origin)) self.old name.now (set_length length) result self.new }
-        ensures troubled { Troubled (record { on = C.Card.on; holds = C.Card.holds; remains = C.Card.remains; origins = C.Card.origins }) (set_length length) name.now self.new.calls (take self.old.count self.old.given) self.old.origin self.old.below result self.new.below }
+        ensures answered { Answered (layered C.Card.meaning (λ l. l.below) (λ l. l.origin)) self.old name.now (set_length length) result self.new }
+        ensures troubled { Troubled C.Card.meaning (set_length length) name.now self.new.calls (take self.old.count self.old.given) self.old.origin self.old.below result self.new.below }
         ensures layer { (self.new.calls ≡ next_call self.old.calls) × (take self.new.count self.new.given ≡ take self.old.count self.old.given) × (self.new.origin ≡ self.old.origin) }
     {
         if self.troubles() {
@@ -174,8 +168,8 @@ impl<C: Card> Card for TroubleLayer<C> {
     }
 
     fn sync(&mut self, name: &[u8]) -> Result<(), CardFault>
-        ensures answered { Answered (layered (record { on = C.Card.on; holds = C.Card.holds; remains = C.Card.remains; origins = C.Card.origins }) (λ l. l.below) (λ l. l.origin)) self.old name.now syncing result self.new }
-        ensures troubled { Troubled (record { on = C.Card.on; holds = C.Card.holds; remains = C.Card.remains; origins = C.Card.origins }) syncing name.now self.new.calls (take self.old.count self.old.given) self.old.origin self.old.below result self.new.below }
+        ensures answered { Answered (layered C.Card.meaning (λ l. l.below) (λ l. l.origin)) self.old name.now syncing result self.new }
+        ensures troubled { Troubled C.Card.meaning syncing name.now self.new.calls (take self.old.count self.old.given) self.old.origin self.old.below result self.new.below }
         ensures layer { (self.new.calls ≡ next_call self.old.calls) × (take self.new.count self.new.given ≡ take self.old.count self.old.given) × (self.new.origin ≡ self.old.origin) }
     {
         if self.troubles() {
@@ -185,8 +179,8 @@ impl<C: Card> Card for TroubleLayer<C> {
     }
 
     fn delete(&mut self, name: &[u8]) -> Result<(), CardFault>
-        ensures answered { Answered (layered (record { on = C.Card.on; holds = C.Card.holds; remains = C.Card.remains; origins = C.Card.origins }) (λ l. l.below) (λ l. l.origin)) self.old name.now deleting result self.new }
-        ensures troubled { Troubled (record { on = C.Card.on; holds = C.Card.holds; remains = C.Card.remains; origins = C.Card.origins }) deleting name.now self.new.calls (take self.old.count self.old.given) self.old.origin self.old.below result self.new.below }
+        ensures answered { Answered (layered C.Card.meaning (λ l. l.below) (λ l. l.origin)) self.old name.now deleting result self.new }
+        ensures troubled { Troubled C.Card.meaning deleting name.now self.new.calls (take self.old.count self.old.given) self.old.origin self.old.below result self.new.below }
         ensures layer { (self.new.calls ≡ next_call self.old.calls) × (take self.new.count self.new.given ≡ take self.old.count self.old.given) × (self.new.origin ≡ self.old.origin) }
     {
         if self.troubles() {
@@ -196,7 +190,7 @@ impl<C: Card> Card for TroubleLayer<C> {
     }
 
     fn power(&mut self)
-        ensures switched { Switched (layered (record { on = C.Card.on; holds = C.Card.holds; remains = C.Card.remains; origins = C.Card.origins }) (λ l. l.below) (λ l. l.origin)) self.old self.new }
+        ensures switched { Switched (layered C.Card.meaning (λ l. l.below) (λ l. l.origin)) self.old self.new }
         ensures calls { self.new.calls ≡ self.old.calls }
         ensures given { take self.new.count self.new.given ≡ take self.old.count self.old.given }
         ensures origin { self.new.origin ≡ self.old.origin }

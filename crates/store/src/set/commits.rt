@@ -56,7 +56,7 @@ impl<C: Card> Set<C> {
     /// number of journals that could not be deleted is told. The token is taken also when the call is
     /// refused. After a fault the set is cold.
     pub fn commit(&mut self, t: Transaction) -> Result<usize, Refusal>
-        ensures { Commits (record { on = C.Card.on; holds = C.Card.holds; remains = C.Card.remains; origins = C.Card.origins }) self.old result self.new (says self.old.mode self.old.begun (End t.number)) }
+        ensures { Commits C.Card.meaning self.old result self.new (says self.old.mode self.old.begun (End t.number)) }
     {
         let number = t.end();
         let nonce = self.nonce();

@@ -26,8 +26,8 @@ fn read_page<C: Card>(
     requires first { 1 ≤ page }
     requires last { page ≤ 4096 }
     requires long { count_of buffer.old ≡ 512 }
-    ensures went { Went (record { on = C.Card.on; holds = C.Card.holds; remains = C.Card.remains; origins = C.Card.origins }) (task (at_reading database) (named names.now.rows names.now.lens names.now.count database) (reads (place_of page) 512) ∷ []) card.old result card.new }
-    ensures bytes { ToldBytes (C.Card.holds card.old (named names.now.rows names.now.lens names.now.count database)) (place_of page) buffer.old result buffer.new }
+    ensures went { Went C.Card.meaning (task (at_reading database) (named names.now.rows names.now.lens names.now.count database) (reads (place_of page) 512) ∷ []) card.old result card.new }
+    ensures bytes { ToldBytes (C.Card.meaning.holds card.old (named names.now.rows names.now.lens names.now.count database)) (place_of page) buffer.old result buffer.new }
 {
     let name = names.file(database);
     Site::reading(database).read(card, name.bytes(), (page - 1) * PAGE as u32, buffer)
@@ -78,8 +78,8 @@ impl<C: Card> Set<C> {
     /// Fills the buffer with a page of a database as it is now: from memory if it is changed, else by
     /// one read of the card. A refusal leaves the buffer.
     pub fn read(&mut self, database: usize, page: u32, buffer: &mut [u8]) -> Result<(), Refusal>
-        ensures read { Reads (record { on = C.Card.on; holds = C.Card.holds; remains = C.Card.remains; origins = C.Card.origins }) database page self.old buffer.old result self.new buffer.new (read_refusal self.old.mode self.old.begun self.old.memory database page (count_of buffer.old)) (look (fields self.old.memory).changed database page) }
-        ensures shows { Shows (record { on = C.Card.on; holds = C.Card.holds; remains = C.Card.remains; origins = C.Card.origins }) database page self.old result buffer.new }
+        ensures read { Reads C.Card.meaning database page self.old buffer.old result self.new buffer.new (read_refusal self.old.mode self.old.begun self.old.memory database page (count_of buffer.old)) (look (fields self.old.memory).changed database page) }
+        ensures shows { Shows C.Card.meaning database page self.old result buffer.new }
         ensures begun { self.new.begun ≡ self.old.begun }
         ensures names { self.new.names ≡ self.old.names }
         ensures stored { self.new.stored ≡ self.old.stored }

@@ -43,7 +43,7 @@ impl<C: Card> Set<C> {
     /// Recovers the set, in any mode: what a failed commit left is rolled back or forgotten. A running
     /// transaction ends. The set is ready then, or cold if the recovery is refused.
     pub fn recover(&mut self) -> Result<Recovery, Refusal>
-        ensures { Recovers (record { on = C.Card.on; holds = C.Card.holds; remains = C.Card.remains; origins = C.Card.origins }) self.old result self.new }
+        ensures { Recovers C.Card.meaning self.old result self.new }
     {
         let answer = recover(&mut self.card, &self.names, &mut self.buffer);
         self.restart(answer)

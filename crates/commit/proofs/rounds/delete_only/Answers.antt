@@ -15,7 +15,7 @@ loop-database-init g c = round_none _ _ _ _
 
 pub loop-database-preserved : goal.loop-database-preserved
 loop-database-preserved g c =
-    let m : Meaning g.row.C.Denot = record { on = g.C.Card.on; holds = g.C.Card.holds; remains = g.C.Card.remains; origins = g.C.Card.origins } in
+    let m : Meaning g.row.C.Denot = g.C.Card.meaning in
     let names = c.args.names.now in
     let file : ℕ → Name = named names.rows names.lens names.count in
     let mem = c.args.memory.now in
@@ -33,7 +33,7 @@ loop-database-preserved g c =
 
 pub returns : goal.returns
 returns g c =
-    let m : Meaning g.row.C.Denot = record { on = g.C.Card.on; holds = g.C.Card.holds; remains = g.C.Card.remains; origins = g.C.Card.origins } in
+    let m : Meaning g.row.C.Denot = g.C.Card.meaning in
     let names = c.args.names.now in
     let file : ℕ → Name = named names.rows names.lens names.count in
     let mem = c.args.memory.now in
@@ -43,7 +43,7 @@ returns g c =
 
 pub returns-in_err-delete : goal.returns-in_err-delete
 returns-in_err-delete g c =
-    let m : Meaning g.row.C.Denot = record { on = g.C.Card.on; holds = g.C.Card.holds; remains = g.C.Card.remains; origins = g.C.Card.origins } in
+    let m : Meaning g.row.C.Denot = g.C.Card.meaning in
     let names = c.args.names.now in
     let file : ℕ → Name = named names.rows names.lens names.count in
     let mem = c.args.memory.now in

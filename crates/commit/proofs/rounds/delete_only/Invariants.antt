@@ -8,5 +8,5 @@ use Rattle.commit.proofs.rounds.delete_only.Given as goal
 
 abbrev pub invariant-loop-database : goal.invariant-loop-database
 invariant-loop-database g l =
-    Round (record { on = g.C.Card.on; holds = g.C.Card.holds; remains = g.C.Card.remains; origins = g.C.Card.origins })
+    Round g.C.Card.meaning
     (λ d. call (named l.names.rows l.names.lens l.names.count) C4 (4 + d) delete ∷ []) l.memory l.initial.card l.database l.card

@@ -19,7 +19,7 @@ not_journal names d k ld lk =
 
 pub loop-database-init : goal.loop-database-init
 loop-database-init g c =
-    let m : Meaning g.row.C.Denot = record { on = g.C.Card.on; holds = g.C.Card.holds; remains = g.C.Card.remains; origins = g.C.Card.origins } in
+    let m : Meaning g.row.C.Denot = g.C.Card.meaning in
     let names = c.args.names.now in
     let file : ℕ → Name = named names.rows names.lens names.count in
     let mem = c.args.memory.now in
@@ -30,7 +30,7 @@ loop-database-init g c =
 
 pub loop-database-preserved : goal.loop-database-preserved
 loop-database-preserved g c =
-    let m : Meaning g.row.C.Denot = record { on = g.C.Card.on; holds = g.C.Card.holds; remains = g.C.Card.remains; origins = g.C.Card.origins } in
+    let m : Meaning g.row.C.Denot = g.C.Card.meaning in
     let names = c.args.names.now in
     let file : ℕ → Name = named names.rows names.lens names.count in
     let mem = c.args.memory.now in
@@ -51,7 +51,7 @@ loop-database-preserved g c =
 
 pub returns : goal.returns
 returns g c =
-    let m : Meaning g.row.C.Denot = record { on = g.C.Card.on; holds = g.C.Card.holds; remains = g.C.Card.remains; origins = g.C.Card.origins } in
+    let m : Meaning g.row.C.Denot = g.C.Card.meaning in
     let names = c.args.names.now in
     let file : ℕ → Name = named names.rows names.lens names.count in
     let mem = c.args.memory.now in
@@ -64,7 +64,7 @@ returns g c =
 
 pub returns-in_err-make_journal : goal.returns-in_err-make_journal
 returns-in_err-make_journal g c =
-    let m : Meaning g.row.C.Denot = record { on = g.C.Card.on; holds = g.C.Card.holds; remains = g.C.Card.remains; origins = g.C.Card.origins } in
+    let m : Meaning g.row.C.Denot = g.C.Card.meaning in
     let names = c.args.names.now in
     let file : ℕ → Name = named names.rows names.lens names.count in
     let mem = c.args.memory.now in

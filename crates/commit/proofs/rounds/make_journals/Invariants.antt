@@ -5,5 +5,5 @@ use Rattle.commit.proofs.rounds.make_journals.Given as goal
 
 abbrev pub invariant-loop-database : goal.invariant-loop-database
 invariant-loop-database g l =
-    Making (record { on = g.C.Card.on; holds = g.C.Card.holds; remains = g.C.Card.remains; origins = g.C.Card.origins })
+    Making g.C.Card.meaning
     (named l.names.rows l.names.lens l.names.count) l.nonce (super_of (named l.names.rows l.names.lens l.names.count) l.linked) l.memory l.sizes.rows l.names.count l.initial.card l.database l.card

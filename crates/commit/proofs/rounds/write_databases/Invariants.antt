@@ -8,5 +8,5 @@ use Rattle.commit.proofs.rounds.write_databases.Given as goal
 abbrev pub invariant-loop-database : goal.invariant-loop-database
 invariant-loop-database g l =
     (stored : ℕ → List ℕ) (base : List ℕ) →
-    Round (record { on = g.C.Card.on; holds = g.C.Card.holds; remains = g.C.Card.remains; origins = g.C.Card.origins })
+    Round g.C.Card.meaning
     (λ d. change_tasks (named l.names.rows l.names.lens l.names.count) (change_of stored base l.memory d)) l.memory l.initial.card l.database l.card

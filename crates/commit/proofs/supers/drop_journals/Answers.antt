@@ -10,7 +10,7 @@ use Rattle.commit.proofs.supers.drop_journals.Goals as goal
 
 pub returns-then-not-many : goal.returns-then-not-many
 returns-then-not-many g c =
-    let m : Meaning g.row.C.Denot = record { on = g.C.Card.on; holds = g.C.Card.holds; remains = g.C.Card.remains; origins = g.C.Card.origins } in
+    let m : Meaning g.row.C.Denot = g.C.Card.meaning in
     let names = c.args.names.now in
     let file : ℕ → Name = named names.rows names.lens names.count in
     let mem = c.args.memory.now in
@@ -19,7 +19,7 @@ returns-then-not-many g c =
 
 pub loop-database-init : goal.loop-database-init
 loop-database-init g c =
-    let m : Meaning g.row.C.Denot = record { on = g.C.Card.on; holds = g.C.Card.holds; remains = g.C.Card.remains; origins = g.C.Card.origins } in
+    let m : Meaning g.row.C.Denot = g.C.Card.meaning in
     let names = c.args.names.now in
     let file : ℕ → Name = named names.rows names.lens names.count in
     let mem = c.args.memory.now in
@@ -29,7 +29,7 @@ loop-database-init g c =
 
 pub loop-database-preserved : goal.loop-database-preserved
 loop-database-preserved g c =
-    let m : Meaning g.row.C.Denot = record { on = g.C.Card.on; holds = g.C.Card.holds; remains = g.C.Card.remains; origins = g.C.Card.origins } in
+    let m : Meaning g.row.C.Denot = g.C.Card.meaning in
     let names = c.args.names.now in
     let file : ℕ → Name = named names.rows names.lens names.count in
     let mem = c.args.memory.now in
@@ -68,7 +68,7 @@ loop-database-preserved g c =
 
 pub returns : goal.returns
 returns g c =
-    let m : Meaning g.row.C.Denot = record { on = g.C.Card.on; holds = g.C.Card.holds; remains = g.C.Card.remains; origins = g.C.Card.origins } in
+    let m : Meaning g.row.C.Denot = g.C.Card.meaning in
     let names = c.args.names.now in
     let file : ℕ → Name = named names.rows names.lens names.count in
     let mem = c.args.memory.now in

@@ -6,6 +6,6 @@ use Rattle.commit.proofs.supers.drop_journals.Given as goal
 
 abbrev pub invariant-loop-database : goal.invariant-loop-database
 invariant-loop-database g l =
-    Trying (record { on = g.C.Card.on; holds = g.C.Card.holds; remains = g.C.Card.remains; origins = g.C.Card.origins })
+    Trying g.C.Card.meaning
     (λ d. record { name = named l.names.rows l.names.lens l.names.count (4 + d); op = delete }) l.memory l.initial.card l.database l.left l.card
     × (l.left ≤ l.database)

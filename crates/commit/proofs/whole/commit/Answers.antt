@@ -16,7 +16,7 @@ not_super names k lt = named_apart names.rows names.lens names.count k 8 names.a
 
 pub returns-in_err-open_super : goal.returns-in_err-open_super
 returns-in_err-open_super g c =
-    let m : Meaning g.row.C.Denot = record { on = g.C.Card.on; holds = g.C.Card.holds; remains = g.C.Card.remains; origins = g.C.Card.origins } in
+    let m : Meaning g.row.C.Denot = g.C.Card.meaning in
     let names = c.args.names.now in
     let file : ℕ → Name = named names.rows names.lens names.count in
     let mem = c.args.memory.now in
@@ -35,7 +35,7 @@ returns-in_err-open_super g c =
 
 pub returns-in_err-make_journals : goal.returns-in_err-make_journals
 returns-in_err-make_journals g c =
-    let m : Meaning g.row.C.Denot = record { on = g.C.Card.on; holds = g.C.Card.holds; remains = g.C.Card.remains; origins = g.C.Card.origins } in
+    let m : Meaning g.row.C.Denot = g.C.Card.meaning in
     let names = c.args.names.now in
     let file : ℕ → Name = named names.rows names.lens names.count in
     let mem = c.args.memory.now in
@@ -57,7 +57,7 @@ returns-in_err-make_journals g c =
 
 pub returns-in_err-write_databases : goal.returns-in_err-write_databases
 returns-in_err-write_databases g c =
-    let m : Meaning g.row.C.Denot = record { on = g.C.Card.on; holds = g.C.Card.holds; remains = g.C.Card.remains; origins = g.C.Card.origins } in
+    let m : Meaning g.row.C.Denot = g.C.Card.meaning in
     let names = c.args.names.now in
     let file : ℕ → Name = named names.rows names.lens names.count in
     let mem = c.args.memory.now in
@@ -81,7 +81,7 @@ returns-in_err-write_databases g c =
 
 pub returns-in_err-close : goal.returns-in_err-close
 returns-in_err-close g c =
-    let m : Meaning g.row.C.Denot = record { on = g.C.Card.on; holds = g.C.Card.holds; remains = g.C.Card.remains; origins = g.C.Card.origins } in
+    let m : Meaning g.row.C.Denot = g.C.Card.meaning in
     let names = c.args.names.now in
     let file : ℕ → Name = named names.rows names.lens names.count in
     let mem = c.args.memory.now in
@@ -107,7 +107,7 @@ returns-in_err-close g c =
 
 pub returns : goal.returns
 returns g c =
-    let m : Meaning g.row.C.Denot = record { on = g.C.Card.on; holds = g.C.Card.holds; remains = g.C.Card.remains; origins = g.C.Card.origins } in
+    let m : Meaning g.row.C.Denot = g.C.Card.meaning in
     let names = c.args.names.now in
     let file : ℕ → Name = named names.rows names.lens names.count in
     let mem = c.args.memory.now in

@@ -16,12 +16,12 @@ returns-in_err-length g c =
     let failed = p.1 ∙ ap (λ (f : JournalFault). Err f) p.2 in
     record {
       acted = acted_stop _ _ _ _ _ _ _ _ c.in_err-length.ensures.answered failed;
-      told = subst (λ (r : Result (Option Verdict) JournalFault). ToldVerdict (g.C.Card.holds c.args.card.now c.args.name.now) c.args.buffer.now r c.args.buffer.now) (sym failed) refl;
+      told = subst (λ (r : Result (Option Verdict) JournalFault). ToldVerdict (g.C.Card.meaning.holds c.args.card.now c.args.name.now) c.args.buffer.now r c.args.buffer.now) (sym failed) refl;
     }
 
 pub returns-in_default : goal.returns-in_default
 returns-in_default g c =
-    let absent : g.C.Card.holds c.args.card.now c.args.name.now ≡ None = no_file _ (sym c.in_default.is ∙ c.in_ok-length.ensures.told) in
+    let absent : g.C.Card.meaning.holds c.args.card.now c.args.name.now ≡ None = no_file _ (sym c.in_default.is ∙ c.in_ok-length.ensures.told) in
     record {
       acted = acted_of c.args.name.now absent (acted_next _ _ _ _ _ _ _ _ _ c.in_ok-length.ensures.answered (acted_end _ _ _));
       told = (absent, refl);
@@ -42,7 +42,7 @@ returns-in_err-read g c =
           acted_of c.args.name.now file.1
           (acted_next _ _ _ _ _ _ _ _ _ c.in_ok-length.ensures.answered (acted_stop _ _ _ _ _ _ _ _ (read_as size c.in_err-read.ensures.answered) failed));
       told =
-          subst (λ (r : Result (Option Verdict) JournalFault). ToldVerdict (g.C.Card.holds c.args.card.now c.args.name.now) buf r (c.read.new.buffer ++ drop (t - 0) buf)) (sym failed) same;
+          subst (λ (r : Result (Option Verdict) JournalFault). ToldVerdict (g.C.Card.meaning.holds c.args.card.now c.args.name.now) buf r (c.read.new.buffer ++ drop (t - 0) buf)) (sym failed) same;
     }
 
 pub returns : goal.returns

@@ -30,7 +30,7 @@ passed count rows list e = ap (λ (k : ℕ). take k rows) (sub-zero count) ∙ e
 
 pub returns-in_err-create : goal.returns-in_err-create
 returns-in_err-create g c =
-    let m : Meaning g.row.C.Denot = record { on = g.C.Card.on; holds = g.C.Card.holds; remains = g.C.Card.remains; origins = g.C.Card.origins } in
+    let m : Meaning g.row.C.Denot = g.C.Card.meaning in
     let names = c.args.names.now in
     let file : ℕ → Name = named names.rows names.lens names.count in
     let d = c.args.database in
@@ -54,7 +54,7 @@ read_originals-requires g c =
 
 pub returns-in_err-read_originals : goal.returns-in_err-read_originals
 returns-in_err-read_originals g c =
-    let m : Meaning g.row.C.Denot = record { on = g.C.Card.on; holds = g.C.Card.holds; remains = g.C.Card.remains; origins = g.C.Card.origins } in
+    let m : Meaning g.row.C.Denot = g.C.Card.meaning in
     let names = c.args.names.now in
     let file : ℕ → Name = named names.rows names.lens names.count in
     let d = c.args.database in
@@ -85,7 +85,7 @@ fill-length-requires g c =
 
 pub returns : goal.returns
 returns g c =
-    let m : Meaning g.row.C.Denot = record { on = g.C.Card.on; holds = g.C.Card.holds; remains = g.C.Card.remains; origins = g.C.Card.origins } in
+    let m : Meaning g.row.C.Denot = g.C.Card.meaning in
     let names = c.args.names.now in
     let file : ℕ → Name = named names.rows names.lens names.count in
     let d = c.args.database in

@@ -9,7 +9,7 @@ use Rattle.journaling.proofs.originals.read_original.Goals as goal
 
 pub returns : goal.returns
 returns g c =
-    let m : Meaning g.row.C.Denot = record { on = g.C.Card.on; holds = g.C.Card.holds; remains = g.C.Card.remains; origins = g.C.Card.origins } in
+    let m : Meaning g.row.C.Denot = g.C.Card.meaning in
     let start = 512 + 520 * c.args.index + 4 in
     let k = start + 512 - start in
     let buf = c.args.buffer.now in

@@ -26,7 +26,7 @@ returns-in_err-read_original g c =
           went_up _ _ _ _ _ c.from_residual.result failed
           (reading_stopped _ _ _ _ _ c.loop-index.index c.loop-index.card c.read_original.new.card c.loop-index.buffer c.read_original.new.buffer c.loop-index.invariant c.loop-index-test.true
           (omega (arith, c.loop-index-test.true, c.requires.few)) _ ill.went);
-      read = subst (λ (r : Result (Unit {0}) SetFault). RecordedIn (contents (g.C.Card.holds c.args.card.now c.args.name.now)) c.args.pages.now r c.read_original.new.buffer) (sym failed) tt;
+      read = subst (λ (r : Result (Unit {0}) SetFault). RecordedIn (contents (g.C.Card.meaning.holds c.args.card.now c.args.name.now)) c.args.pages.now r c.read_original.new.buffer) (sym failed) tt;
     }
 
 pub returns : goal.returns

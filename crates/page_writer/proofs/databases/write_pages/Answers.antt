@@ -15,7 +15,7 @@ loop-page-init g c = writing_none _ _ _ _ _
 
 pub returns-in_err-write : goal.returns-in_err-write
 returns-in_err-write g c =
-    let m : Meaning g.row.C.Denot = record { on = g.C.Card.on; holds = g.C.Card.holds; remains = g.C.Card.remains; origins = g.C.Card.origins } in
+    let m : Meaning g.row.C.Denot = g.C.Card.meaning in
     let names = c.args.names.now in
     let d = c.args.database in
     let file : ℕ → Name = named names.rows names.lens names.count in
@@ -33,7 +33,7 @@ returns-in_err-write g c =
 
 pub loop-page-preserved : goal.loop-page-preserved
 loop-page-preserved g c =
-    let m : Meaning g.row.C.Denot = record { on = g.C.Card.on; holds = g.C.Card.holds; remains = g.C.Card.remains; origins = g.C.Card.origins } in
+    let m : Meaning g.row.C.Denot = g.C.Card.meaning in
     let names = c.args.names.now in
     let d = c.args.database in
     let file : ℕ → Name = named names.rows names.lens names.count in
@@ -47,7 +47,7 @@ loop-page-preserved g c =
 
 pub returns : goal.returns
 returns g c =
-    let m : Meaning g.row.C.Denot = record { on = g.C.Card.on; holds = g.C.Card.holds; remains = g.C.Card.remains; origins = g.C.Card.origins } in
+    let m : Meaning g.row.C.Denot = g.C.Card.meaning in
     let names = c.args.names.now in
     let d = c.args.database in
     let file : ℕ → Name = named names.rows names.lens names.count in

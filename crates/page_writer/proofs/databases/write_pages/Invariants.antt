@@ -5,7 +5,7 @@ use Rattle.page_writer.proofs.databases.write_pages.Given as goal
 
 abbrev pub invariant-loop-page : goal.invariant-loop-page
 invariant-loop-page g l =
-    Writing (record { on = g.C.Card.on; holds = g.C.Card.holds; remains = g.C.Card.remains; origins = g.C.Card.origins }) (named l.names.rows l.names.lens l.names.count l.database) l.memory l.database l.initial.card l.last l.card
+    Writing g.C.Card.meaning (named l.names.rows l.names.lens l.names.count l.database) l.memory l.database l.initial.card l.last l.card
 
 abbrev pub decreases-loop-page : goal.decreases-loop-page
 decreases-loop-page g l = 4096 - l.last

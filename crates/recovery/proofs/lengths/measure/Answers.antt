@@ -22,8 +22,8 @@ returns-in_err-sizes g c =
     record {
       looked = looked_refused _ _ _ _ _ _ _ failed (looked_then _ _ _ _ _ _ _ old.0 c.in_err-sizes.ensures.looked);
       told =
-          subst (λ (x : Result (List ℕ) Refusal). Measured (g.C.Card.holds c.args.card.now) file c.args.names.now.count x) (sym failed)
-          (says_more _ _ never₂ _ never _ (Unsized (g.C.Card.holds c.args.card.now) file c.args.names.now.count) (λ f k h. h) (λ f h. h)
+          subst (λ (x : Result (List ℕ) Refusal). Measured (g.C.Card.meaning.holds c.args.card.now) file c.args.names.now.count x) (sym failed)
+          (says_more _ _ never₂ _ never _ (Unsized (g.C.Card.meaning.holds c.args.card.now) file c.args.names.now.count) (λ f k h. h) (λ f h. h)
           (λ i h. unsized_at _ _ file _ c.loop-d.d _ i same lt old.1 h) c.in_err-sizes.ensures.told);
     }
 

@@ -7,5 +7,5 @@ use Rattle.recovery.proofs.lengths.measure.Given as goal
 
 abbrev pub invariant-loop-d : goal.invariant-loop-d
 invariant-loop-d g l =
-    Looked (record { on = g.C.Card.on; holds = g.C.Card.holds; remains = g.C.Card.remains; origins = g.C.Card.origins }) R4 (file_of l.names) l.initial.card (Ok tt) l.card
-    × MeasuredTo (g.C.Card.holds l.initial.card) (file_of l.names) l.d l.sizes
+    Looked g.C.Card.meaning R4 (file_of l.names) l.initial.card (Ok tt) l.card
+    × MeasuredTo (g.C.Card.meaning.holds l.initial.card) (file_of l.names) l.d l.sizes

@@ -21,8 +21,8 @@ told_up s f old new r r' e h = subst (λ (x : Result (Option Verdict) SetFault).
 pub returns : goal.returns
 returns g c =
     let name = c.bytes.ensures ∙ c.file-name.ensures in
-    let holds = g.C.Card.holds c.args.card.now in
-    let m : Meaning g.row.C.Denot = record { on = g.C.Card.on; holds = g.C.Card.holds; remains = g.C.Card.remains; origins = g.C.Card.origins } in
+    let holds = g.C.Card.meaning.holds c.args.card.now in
+    let m : Meaning g.row.C.Denot = g.C.Card.meaning in
     record {
       went =
           subst (λ (x : Name). Went m (tasks (record { step = Some c.args.step; file = c.args.file; «record» = 0 }) (judge_acts x (holds x))) c.args.card.now c.told.result c.judge_file.new.card) name

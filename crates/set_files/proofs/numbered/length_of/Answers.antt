@@ -9,5 +9,5 @@ returns g c =
     let name = c.bytes.ensures ∙ c.file-name.ensures in
     record {
       went = went_as _ _ _ _ _ _ _ _ _ c.new.ensures name c.length.ensures.went;
-      told = subst (λ (x : Name). ToldLength (g.C.Card.holds c.args.card.now x) c.length.result) name c.length.ensures.told;
+      told = subst (λ (x : Name). ToldLength (g.C.Card.meaning.holds c.args.card.now x) c.length.result) name c.length.ensures.told;
     }

@@ -27,7 +27,7 @@ returns-in_err-write_records g c =
 
 pub returns : goal.returns
 returns g c =
-    let m : Meaning g.row.C.Denot = record { on = g.C.Card.on; holds = g.C.Card.holds; remains = g.C.Card.remains; origins = g.C.Card.origins } in
+    let m : Meaning g.row.C.Denot = g.C.Card.meaning in
     λ j ok e.
     let told = c.in_ok-sound.ensures.told j ok e in
     let finished =

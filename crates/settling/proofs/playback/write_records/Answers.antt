@@ -28,7 +28,7 @@ loop-index-preserved g c = λ j of. up_more _ _ _ _ _ _ (Ok tt) (c.loop-index.in
 
 pub returns : goal.returns
 returns g c =
-    let m : Meaning g.row.C.Denot = record { on = g.C.Card.on; holds = g.C.Card.holds; remains = g.C.Card.remains; origins = g.C.Card.origins } in
+    let m : Meaning g.row.C.Denot = g.C.Card.meaning in
     λ j of.
     let end : c.loop-index.index ≡ length j.records = omega (arith, of.parts.count) in
     subst (λ (k : ℕ). Went m {V = Unit {0}} (up_to (λ i. record_task (file_of c.args.names.now) c.args.d j i ∷ []) k) c.args.card.now (Ok tt) c.loop-index.card) end (c.loop-index.invariant j of)

@@ -9,4 +9,4 @@ use Rattle.settling.proofs.playback.write_records.Given as goal
 abbrev pub invariant-loop-index : goal.invariant-loop-index
 invariant-loop-index g l =
     (j : Journal) → Of l.bytes l.sound j →
-    Went (record { on = g.C.Card.on; holds = g.C.Card.holds; remains = g.C.Card.remains; origins = g.C.Card.origins }) {V = Unit {0}} (up_to (λ k. record_task (file_of l.names) l.d j k ∷ []) l.index) l.initial.card (Ok tt) l.card
+    Went g.C.Card.meaning {V = Unit {0}} (up_to (λ k. record_task (file_of l.names) l.d j k ∷ []) l.index) l.initial.card (Ok tt) l.card

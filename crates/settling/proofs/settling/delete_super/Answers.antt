@@ -19,14 +19,14 @@ returns-in_err-length_of g c =
 
 pub returns-in_default : goal.returns-in_default
 returns-in_default g c =
-    let m : Meaning g.row.C.Denot = record { on = g.C.Card.on; holds = g.C.Card.holds; remains = g.C.Card.remains; origins = g.C.Card.origins } in
+    let m : Meaning g.row.C.Denot = g.C.Card.meaning in
     let gone = told_absent _ _ c.in_default.is c.in_ok-length_of.ensures.told in
     subst (λ (f : Option Bytes). Went m {V = Unit {0}} (super_tasks (file_of c.args.names.now) f) c.args.card.now (Ok tt) c.length_of.new.card) (sym gone)
     (went_value _ _ _ _ c.in_ok-length_of.field-0 tt c.in_ok-length_of.ensures.went)
 
 pub returns : goal.returns
 returns g c =
-    let m : Meaning g.row.C.Denot = record { on = g.C.Card.on; holds = g.C.Card.holds; remains = g.C.Card.remains; origins = g.C.Card.origins } in
+    let m : Meaning g.row.C.Denot = g.C.Card.meaning in
     let there = told_some _ _ (sym c.in-Some.is ∙ c.in_ok-length_of.ensures.told) in
     subst (λ (f : Option Bytes). Went m {V = Unit {0}} (super_tasks (file_of c.args.names.now) f) c.args.card.now c.delete_file.result c.delete_file.new.card) (sym there.1)
     (went_next _ _ _ _ _ _ _ _ c.in_ok-length_of.ensures.went c.delete_file.ensures)

@@ -47,6 +47,6 @@ loop-d-preserved g c =
 
 pub returns : goal.returns
 returns g c =
-    let m : Meaning g.row.C.Denot = record { on = g.C.Card.on; holds = g.C.Card.holds; remains = g.C.Card.remains; origins = g.C.Card.origins } in
+    let m : Meaning g.row.C.Denot = g.C.Card.meaning in
     let end : c.loop-d.d ≡ c.args.names.now.count = omega arith in
     λ seen all. subst (λ (k : ℕ). Went m {V = Unit {0}} (all_tasks (file_of c.args.names.now) k seen) c.args.card.now (Ok tt) c.loop-d.card) end (c.loop-d.invariant seen all)

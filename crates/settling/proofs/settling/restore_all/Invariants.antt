@@ -7,5 +7,5 @@ use Rattle.settling.proofs.settling.restore_all.Given as goal
 
 abbrev pub invariant-loop-d : goal.invariant-loop-d
 invariant-loop-d g l =
-    (seen : ℕ → Seen) → AllSeen (g.C.Card.holds l.initial.card) (file_of l.names) l.names.count l.found seen →
-    Went (record { on = g.C.Card.on; holds = g.C.Card.holds; remains = g.C.Card.remains; origins = g.C.Card.origins }) {V = Unit {0}} (all_tasks (file_of l.names) l.d seen) l.initial.card (Ok tt) l.card
+    (seen : ℕ → Seen) → AllSeen (g.C.Card.meaning.holds l.initial.card) (file_of l.names) l.names.count l.found seen →
+    Went g.C.Card.meaning {V = Unit {0}} (all_tasks (file_of l.names) l.d seen) l.initial.card (Ok tt) l.card

@@ -18,7 +18,7 @@ returns-in_err-restore_all g c =
 
 pub returns : goal.returns
 returns g c =
-    let m : Meaning g.row.C.Denot = record { on = g.C.Card.on; holds = g.C.Card.holds; remains = g.C.Card.remains; origins = g.C.Card.origins } in
+    let m : Meaning g.row.C.Denot = g.C.Card.meaning in
     let few : c.args.names.now.count ≤ 4 = omega arith in
     λ seen all.
     let first = c.in_ok-restore_all.ensures seen all in

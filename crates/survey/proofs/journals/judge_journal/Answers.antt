@@ -26,7 +26,7 @@ returns-in_err-verdict g c =
 
 pub returns-in_default : goal.returns-in_default
 returns-in_default g c =
-    let t = subst (λ (x : Option Verdict). ToldVerdict (g.C.Card.holds c.args.card.now (file_of c.args.names.now (4 + c.args.d))) c.args.buffer.now (Ok x) c.judge_numbered.new.buffer) c.in_default.is c.in_ok-verdict.ensures.told in
+    let t = subst (λ (x : Option Verdict). ToldVerdict (g.C.Card.meaning.holds c.args.card.now (file_of c.args.names.now (4 + c.args.d))) c.args.buffer.now (Ok x) c.judge_numbered.new.buffer) c.in_default.is c.in_ok-verdict.ensures.told in
     record {
       looked = looked_judged _ _ (file_of c.args.names.now) _ _ (4 + c.args.d) _ _ c.in_ok-verdict.ensures.went;
       told = (none, t.0, tt, refl);
@@ -58,7 +58,7 @@ pub returns-in-Some-super_journal : goal.returns-in-Some-super_journal
 returns-in-Some-super_journal g c =
     let file = file_of c.args.names.now in
     let d = c.args.d in
-    let files = g.C.Card.holds c.args.card.now in
+    let files = g.C.Card.meaning.holds c.args.card.now in
     let t = told_judged _ _ _ _ _ c.in-Some.is c.in_ok-verdict.ensures.told in
     let s = judged_sound _ _ _ t.2 c.in-Sound.is in
     let of = c.journal_in.ensures s.0 _ s.1 s.3 (journal_read c.args.buffer.now _ t.0 s.0 s.1 s.2 t.3) in
@@ -81,5 +81,5 @@ returns-in-None g c =
     let of = c.journal_in.ensures s.0 _ s.1 s.3 (journal_read c.args.buffer.now _ t.0 s.0 s.1 s.2 t.3) in
     record {
       looked = looked_judged _ _ (file_of c.args.names.now) _ _ (4 + c.args.d) _ _ c.in_ok-verdict.ensures.went;
-      told = alone_hot (g.C.Card.holds c.args.card.now) (file_of c.args.names.now) c.args.d t.0 s.0 _ t.1 s.1 s.2 (c.in-None.ensures.told s.0 of) s.3.count;
+      told = alone_hot (g.C.Card.meaning.holds c.args.card.now) (file_of c.args.names.now) c.args.d t.0 s.0 _ t.1 s.1 s.2 (c.in-None.ensures.told s.0 of) s.3.count;
     }

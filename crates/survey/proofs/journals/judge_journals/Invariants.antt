@@ -7,5 +7,5 @@ use Rattle.survey.proofs.journals.judge_journals.Given as goal
 
 abbrev pub invariant-loop-d : goal.invariant-loop-d
 invariant-loop-d g l =
-    Looked (record { on = g.C.Card.on; holds = g.C.Card.holds; remains = g.C.Card.remains; origins = g.C.Card.origins }) R1 (file_of l.names) l.initial.card (Ok tt) l.card
-    × LookedTo (g.C.Card.holds l.initial.card) (file_of l.names) l.d l.found l.links
+    Looked g.C.Card.meaning R1 (file_of l.names) l.initial.card (Ok tt) l.card
+    × LookedTo (g.C.Card.meaning.holds l.initial.card) (file_of l.names) l.d l.found l.links

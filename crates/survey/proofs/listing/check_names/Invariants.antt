@@ -8,5 +8,5 @@ use Rattle.survey.proofs.listing.check_names.Given as goal
 
 abbrev pub invariant-loop-i : goal.invariant-loop-i
 invariant-loop-i g l =
-    Looked (record { on = g.C.Card.on; holds = g.C.Card.holds; remains = g.C.Card.remains; origins = g.C.Card.origins }) R1 (file_of l.names) l.initial.card (Ok tt) l.card
-    × ((k : ℕ) → k < l.i → JournalName (file_of l.names) l.names.count (get_or (lying_at l.bytes l.places) k []) ⊎ (g.C.Card.holds l.initial.card (get_or (lying_at l.bytes l.places) k []) ≡ None))
+    Looked g.C.Card.meaning R1 (file_of l.names) l.initial.card (Ok tt) l.card
+    × ((k : ℕ) → k < l.i → JournalName (file_of l.names) l.names.count (get_or (lying_at l.bytes l.places) k []) ⊎ (g.C.Card.meaning.holds l.initial.card (get_or (lying_at l.bytes l.places) k []) ≡ None))

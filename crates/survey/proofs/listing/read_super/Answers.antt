@@ -42,8 +42,8 @@ returns g c =
     let there = told_some _ _ (sym c.in-Some.is ∙ c.in_ok-length.ensures.told) in
     let first = looked_one _ R1 (file_of c.args.names.now) _ _ _ _ _ _ _ refl tt (inr refl) c.in_ok-length.ensures.went in
     let same = looked_same _ _ _ _ _ first in
-    let held : g.C.Card.holds c.length_of.new.card c.bytes.result.now ≡ Some there.0 =
-    ap (g.C.Card.holds c.length_of.new.card) name ∙ ap (λ (h : Holds). h (file_of c.args.names.now 8)) same ∙ there.1 in
+    let held : g.C.Card.meaning.holds c.length_of.new.card c.bytes.result.now ≡ Some there.0 =
+    ap (g.C.Card.meaning.holds c.length_of.new.card) name ∙ ap (λ (h : Holds). h (file_of c.args.names.now 8)) same ∙ there.1 in
     let short : c.in-Some.length ≤ 17724 = omega arith in
     let room : length c.args.buffer.now ≡ 17724 = omega arith in
     record {

@@ -17,7 +17,7 @@ returns-in_err-journals g c =
     let failed = p.1 ∙ ap (λ (e : Refusal). Err e) p.2 in
     let file = file_of c.args.names.now in
     let n = c.args.names.now.count in
-    let files = g.C.Card.holds c.args.card.now in
+    let files = g.C.Card.meaning.holds c.args.card.now in
     let first = c.in_ok-all_present.ensures in
     let same = looked_same _ _ _ _ _ first.looked in
     record {
@@ -43,7 +43,7 @@ pub returns-in-Some : goal.returns-in-Some
 returns-in-Some g c =
     let file = file_of c.args.names.now in
     let n = c.args.names.now.count in
-    let files = g.C.Card.holds c.args.card.now in
+    let files = g.C.Card.meaning.holds c.args.card.now in
     let first = c.in_ok-all_present.ensures in
     let same = looked_same _ _ _ _ _ first.looked in
     let found = c.in_ok-journals.journals.found in
@@ -71,7 +71,7 @@ pub returns-in_default-first_linked : goal.returns-in_default-first_linked
 returns-in_default-first_linked g c =
     let file = file_of c.args.names.now in
     let n = c.args.names.now.count in
-    let files = g.C.Card.holds c.args.card.now in
+    let files = g.C.Card.meaning.holds c.args.card.now in
     let first = c.in_ok-all_present.ensures in
     let same = looked_same _ _ _ _ _ first.looked in
     let found = c.in_ok-journals.journals.found in
@@ -92,7 +92,7 @@ pub check_super-requires : goal.check_super-requires
 check_super-requires g c =
     let file = file_of c.args.names.now in
     let n = c.args.names.now.count in
-    let files = g.C.Card.holds c.args.card.now in
+    let files = g.C.Card.meaning.holds c.args.card.now in
     let first = c.in_ok-all_present.ensures in
     let same = looked_same _ _ _ _ _ first.looked in
     let found = c.in_ok-journals.journals.found in
@@ -109,7 +109,7 @@ returns-in_err-check_super g c =
     let failed = p.1 ∙ ap (λ (e : Refusal). Err e) p.2 in
     let file = file_of c.args.names.now in
     let n = c.args.names.now.count in
-    let files = g.C.Card.holds c.args.card.now in
+    let files = g.C.Card.meaning.holds c.args.card.now in
     let first = c.in_ok-all_present.ensures in
     let same = looked_same _ _ _ _ _ first.looked in
     let found = c.in_ok-journals.journals.found in
@@ -157,7 +157,7 @@ pub returns : goal.returns
 returns g c =
     let file = file_of c.args.names.now in
     let n = c.args.names.now.count in
-    let files = g.C.Card.holds c.args.card.now in
+    let files = g.C.Card.meaning.holds c.args.card.now in
     let first = c.in_ok-all_present.ensures in
     let same = looked_same _ _ _ _ _ first.looked in
     let found = c.in_ok-journals.journals.found in

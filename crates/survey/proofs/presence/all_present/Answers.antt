@@ -33,7 +33,7 @@ loop-d-preserved g c =
     let same = looked_same _ _ _ _ _ c.loop-d.invariant.0 in
     let there = told_some _ _ (sym c.in-Some.is ∙ c.in_ok-length_of.ensures.told) in (
       looked_then _ _ _ _ _ _ _ c.loop-d.invariant.0 (looked_one _ _ _ _ _ _ _ _ _ _ refl tt (inr refl) c.in_ok-length_of.ensures.went),
-      below_more (λ (k : ℕ). Present (g.C.Card.holds c.args.card.now (file k))) _ c.loop-d.invariant.1 (subst (λ (h : Holds). Present (h (file c.loop-d.d))) same (there.0, there.1)),
+      below_more (λ (k : ℕ). Present (g.C.Card.meaning.holds c.args.card.now (file k))) _ c.loop-d.invariant.1 (subst (λ (h : Holds). Present (h (file c.loop-d.d))) same (there.0, there.1)),
     )
 
 pub returns : goal.returns

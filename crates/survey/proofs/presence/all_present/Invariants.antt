@@ -6,5 +6,5 @@ use Rattle.survey.proofs.presence.all_present.Given as goal
 
 abbrev pub invariant-loop-d : goal.invariant-loop-d
 invariant-loop-d g l =
-    Looked (record { on = g.C.Card.on; holds = g.C.Card.holds; remains = g.C.Card.remains; origins = g.C.Card.origins }) R1 (file_of l.names) l.initial.card (Ok tt) l.card
-    × ((k : ℕ) → k < l.d → Present (g.C.Card.holds l.initial.card (file_of l.names k)))
+    Looked g.C.Card.meaning R1 (file_of l.names) l.initial.card (Ok tt) l.card
+    × ((k : ℕ) → k < l.d → Present (g.C.Card.meaning.holds l.initial.card (file_of l.names k)))

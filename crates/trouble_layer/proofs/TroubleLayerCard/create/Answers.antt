@@ -9,7 +9,7 @@ pub returns : goal.returns
 returns g c =
     let self = c.args.self.now in
     let n = c.args.name.now in
-    let m : Meaning g.row.C.Denot = record { on = g.C.Card.on; holds = g.C.Card.holds; remains = g.C.Card.remains; origins = g.C.Card.origins } in
+    let m : Meaning g.row.C.Denot = g.C.Card.meaning in
     record {
       answered = passed_answered m (λ l. l.below) (λ l. l.origin) self _ create n c.troubles.new.self.below c.create.result c.troubles.ensures.below c.troubles.ensures.origin c.create.ensures;
       troubled =

@@ -9,10 +9,10 @@ pub returns : goal.returns
 returns g c =
     let self = c.args.self.now in
     let n = c.args.name.now in
-    let m : Meaning g.row.C.Denot = record { on = g.C.Card.on; holds = g.C.Card.holds; remains = g.C.Card.remains; origins = g.C.Card.origins } in
+    let m : Meaning g.row.C.Denot = g.C.Card.meaning in
     record {
       answered = passed_answered m (λ l. l.below) (λ l. l.origin) self _ length_of n c.troubles.new.self.below c.length.result c.troubles.ensures.below c.troubles.ensures.origin c.length.ensures.answered;
-      told = subst (λ (x : g.row.C.Denot). ToldLength (g.C.Card.holds x c.args.name.now) c.length.result) c.troubles.ensures.below c.length.ensures.told;
+      told = subst (λ (x : g.row.C.Denot). ToldLength (g.C.Card.meaning.holds x c.args.name.now) c.length.result) c.troubles.ensures.below c.length.ensures.told;
       troubled =
           passed_on m length_of n _ (next_call self.calls) (take self.count self.given) self.origin c.troubles.new.self.below self.below c.length.new.self c.troubles.result c.length.result
           c.troubles.ensures.is c.if-troubles.false c.troubles.ensures.calls c.troubles.ensures.below c.length.ensures.answered;

@@ -5,7 +5,7 @@ use Rattle.trouble_layer.proofs.TroubleLayerCard.power.Goals as goal
 pub returns : goal.returns
 returns g c =
     record {
-      switched = layered_switched (record { on = g.C.Card.on; holds = g.C.Card.holds; remains = g.C.Card.remains; origins = g.C.Card.origins }) (λ l. l.below) (λ l. l.origin) c.args.self.now _ c.power.ensures refl;
+      switched = layered_switched g.C.Card.meaning (λ l. l.below) (λ l. l.origin) c.args.self.now _ c.power.ensures refl;
       calls = refl;
       given = refl;
       origin = refl;

@@ -9,10 +9,10 @@ pub returns : goal.returns
 returns g c =
     let self = c.args.self.now in
     let n = c.args.name.now in
-    let m : Meaning g.row.C.Denot = record { on = g.C.Card.on; holds = g.C.Card.holds; remains = g.C.Card.remains; origins = g.C.Card.origins } in
+    let m : Meaning g.row.C.Denot = g.C.Card.meaning in
     record {
       answered = passed_answered m (λ l. l.below) (λ l. l.origin) self _ (read c.args.place (length c.args.buffer.now)) n c.troubles.new.self.below c.read.result c.troubles.ensures.below c.troubles.ensures.origin c.read.ensures.answered;
-      told = subst (λ (x : g.row.C.Denot). ToldBytes (g.C.Card.holds x c.args.name.now) c.args.place c.args.buffer.now c.read.result c.read.new.buffer) c.troubles.ensures.below c.read.ensures.told;
+      told = subst (λ (x : g.row.C.Denot). ToldBytes (g.C.Card.meaning.holds x c.args.name.now) c.args.place c.args.buffer.now c.read.result c.read.new.buffer) c.troubles.ensures.below c.read.ensures.told;
       troubled =
           passed_on m (read c.args.place (length c.args.buffer.now)) n _ (next_call self.calls) (take self.count self.given) self.origin c.troubles.new.self.below self.below c.read.new.self c.troubles.result c.read.result
           c.troubles.ensures.is c.if-troubles.false c.troubles.ensures.calls c.troubles.ensures.below c.read.ensures.answered;

@@ -7,7 +7,7 @@ use Rattle.store.proofs.set.Set.commit.Goals as goal
 
 pub returns : goal.returns
 returns g c =
-    let m : Meaning g.row.C.Denot = record { on = g.C.Card.on; holds = g.C.Card.holds; remains = g.C.Card.remains; origins = g.C.Card.origins } in
+    let m : Meaning g.row.C.Denot = g.C.Card.meaning in
     let a = c.in_ok-admit.ensures in
     let d = c.conclude.ensures in
     carried m c.args.self.now c.admit.new.self c.conclude.new.self c.nonce-nonce.result c.commit-answer.new.card c.commit-answer.result c.conclude.result _

@@ -8,7 +8,7 @@ use Rattle.store.proofs.set.Set.read.Goals as goal
 
 pub returns-in-Some-get : goal.returns-in-Some-get
 returns-in-Some-get g c =
-    let m : Meaning g.row.C.Denot = record { on = g.C.Card.on; holds = g.C.Card.holds; remains = g.C.Card.remains; origins = g.C.Card.origins } in
+    let m : Meaning g.row.C.Denot = g.C.Card.meaning in
     let self = c.args.self.now in
     let old : List ℕ = c.args.buffer.now in
     let d = c.args.database in
@@ -26,7 +26,7 @@ returns-in-Some-get g c =
 
 pub returns : goal.returns
 returns g c =
-    let m : Meaning g.row.C.Denot = record { on = g.C.Card.on; holds = g.C.Card.holds; remains = g.C.Card.remains; origins = g.C.Card.origins } in
+    let m : Meaning g.row.C.Denot = g.C.Card.meaning in
     let self = c.args.self.now in
     let old : List ℕ = c.args.buffer.now in
     let d = c.args.database in

@@ -13,7 +13,7 @@ restart-requires g c = sized _ _ _ _ _ _ c.recover-answer.ensures
 
 pub returns : goal.returns
 returns g c =
-    let m : Meaning g.row.C.Denot = record { on = g.C.Card.on; holds = g.C.Card.holds; remains = g.C.Card.remains; origins = g.C.Card.origins } in
+    let m : Meaning g.row.C.Denot = g.C.Card.meaning in
     let s = c.args.self.now in
     let s' = c.restart.new.self in
     let d = c.restart.ensures in
