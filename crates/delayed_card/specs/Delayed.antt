@@ -5,14 +5,16 @@ use Rattle.card.specs.declared.fault.Cause.TheVariants.{Power}
 use Rattle.card.specs.declared.fault.CardFault.{CardFault}
 use Rattle.card.specs.Meaning.{Meaning, Bytes, Name}
 use Rattle.card.specs.Calls.{Op, cause_of}
-use Rattle.halves.specs.declared.loss.Kept.{Kept}
-use Rattle.halves.specs.declared.loss.Kept.TheVariants.{Synced, Current, Mixed}
+use Rattle.halves.specs.declared.kept.Kept.{Kept}
+use Rattle.halves.specs.declared.both.Halves.{Halves}
 use Rattle.image.specs.Layout.{held}
 use Rattle.image.specs.Stored.{refusal}
 use Rattle.image.specs.Blamed.{FromOrigin}
+use Rattle.halves.specs.Kept.{kept_number}
 use Rattle.halves.specs.Halves.{mixed, backed}
 use Rattle.cut_calls.specs.Calls.{Call}
 use Rattle.delayed_card.specs.declared.cut.Cut.{Cut}
+use Rattle.delayed_card.specs.declared.delayed.DelayedCard.{DelayedCard}
 use Rattle.delayed_card.specs.declared.cut.Untold.{Untold}
 use Rattle.delayed_card.specs.declared.cut.Untold.TheVariants.{NoCall, NoKept}
 
@@ -26,20 +28,15 @@ abbrev pub MayRemain : Bytes → Bytes → Name → Bytes → Type 0
 MayRemain current synced n b =
     (a : Bytes) × (held current n ≡ Some a) × ((b ≡ a) ⊎ ((b ≡ bytes_or_none (backed current synced n)) ⊎ (b ≡ mixed a (bytes_or_none (backed current synced n)))))
 
-abbrev pub delayed : {C : Type 0} → (C → Bool) → (C → Bytes) → (C → Bytes) → (C → ℕ) → Meaning C
-delayed on current synced origin =
+-- a delayed card holds what its current half has
+abbrev pub delayed : Meaning DelayedCard
+delayed =
     record {
-      on = on;
-      holds = λ c n. held (current c) n;
-      remains = λ c n b. MayRemain (current c) (synced c) n b;
-      origins = λ c o. o ≡ origin c;
+      on = λ c. c.on;
+      holds = λ c n. held c.halves.current.now n;
+      remains = λ c n b. MayRemain c.halves.current.now c.halves.synced.now n b;
+      origins = λ c o. o ≡ c.origin;
     }
-
--- what is kept, by its number: 0 what was synced, 1 all, 2 the mix
-abbrev pub kept_number : Kept → ℕ
-kept_number Synced = 0
-kept_number Current = 1
-kept_number Mixed = 2
 
 -- a told cut counts calls, and is spent at the last
 abbrev pub next_cut : Option Cut → Option Cut
@@ -57,11 +54,12 @@ still_on None = true
 still_on (Some kept) = false
 
 -- all that a call does to a delayed card: with power off nothing, with power on the call or the loss
-pub record Delayed {V : Type 0} (op : Op) (n : Name) (on : Bool) (cut : Option Cut) (origin : ℕ) (current synced : Bytes) (r : Result V CardFault) (on' : Bool) (cut' : Option Cut) (current' synced' : Bytes) : Type 0 where
-  pub counted : cut' ≡ next_cut cut
-  pub from : FromOrigin origin r
-  pub off : on ≡ false → (on' ≡ false) × (cause_of r ≡ Some Power) × (current' ≡ current) × (synced' ≡ synced)
-  pub powered : on ≡ true → (on' ≡ still_on (lost_now cut)) × ((a : Result V Cause) × (refusal a ≡ cause_of r) × Call (lost_now cut) op n current synced a current' synced')
+pub record Delayed {V : Type 0} (op : Op) (n : Name) (c : DelayedCard) (r : Result V CardFault) (c' : DelayedCard) : Type 0 where
+  pub counted : c'.cut ≡ next_cut c.cut
+  pub origin : c'.origin ≡ c.origin
+  pub from : FromOrigin c.origin r
+  pub off : c.on ≡ false → (c'.on ≡ false) × (cause_of r ≡ Some Power) × (c'.halves ≡ c.halves)
+  pub powered : c.on ≡ true → (c'.on ≡ still_on (lost_now c.cut)) × ((a : Result V Cause) × (refusal a ≡ cause_of r) × Call (lost_now c.cut) op n c.halves a c'.halves)
 
 -- a telling of a loss is lawful from call 1 on, with what is kept from 0 to 2; an unlawful one changes nothing
 abbrev pub ToldCut : ℕ → ℕ → Option Cut → Result (Unit {0}) Untold → Option Cut → Type 0

@@ -1,8 +1,9 @@
 // A power failure that is told in advance.
 ghost use Rattle.std.specs.Prelude.{◌≡◌, Some, None, Ok, Err, MatchResult};
+ghost use Rattle.delayed_card.specs.declared.cut.Untold.TheVariants.{NoKept};
 ghost use Rattle.delayed_card.specs.Delayed.{next_cut, lost_now, ToldCut};
 
-use halves::Kept;
+use halves::{Kept, UnknownKept};
 
 /// Power is to fail at a call from now, with what is then kept.
 #[derive(Clone, Copy, PartialEq, Eq, Debug)]
@@ -20,6 +21,14 @@ pub enum Untold {
     NoKept,
 }
 
+impl From<UnknownKept> for Untold {
+    ghost from_gives = { λ _ untold. untold ≡ NoKept };
+
+    fn from(_: UnknownKept) -> Untold {
+        Untold::NoKept
+    }
+}
+
 /// The cut at a call from now, with what is kept by its number.
 pub fn told(call: u32, kept: u8) -> Result<Cut, Untold>
     ensures { MatchResult result (λ cut. ToldCut call kept None (Ok tt) (Some cut)) (λ e. ToldCut call kept None (Err e) None) }
@@ -27,48 +36,29 @@ pub fn told(call: u32, kept: u8) -> Result<Cut, Untold>
     if call == 0 {
         return Err(Untold::NoCall);
     }
-    match kept {
-        0 => Ok(Cut {
-            calls: call,
-            kept: Kept::Synced,
-        }),
-        1 => Ok(Cut {
-            calls: call,
-            kept: Kept::Current,
-        }),
-        2 => Ok(Cut {
-            calls: call,
-            kept: Kept::Mixed,
-        }),
-        _ => Err(Untold::NoKept),
-    }
+    Ok(Cut {
+        calls: call,
+        kept: Kept::try_from(kept)?,
+    })
 }
 
 /// A told cut after one call more.
 pub fn after_call(cut: Option<Cut>) -> Option<Cut>
     ensures { result ≡ next_cut cut }
 {
-    match cut {
-        Some(Cut { calls, kept }) => {
-            if calls <= 1 {
-                None
-            } else {
-                Some(Cut {
-                    calls: calls - 1,
-                    kept,
-                })
-            }
-        }
-        None => None,
+    let Cut { calls, kept } = cut?;
+    if calls <= 1 {
+        return None;
     }
+    Some(Cut {
+        calls: calls - 1,
+        kept,
+    })
 }
 
 /// What is kept if power is to fail at this call.
 pub fn at_call(cut: Option<Cut>) -> Option<Kept>
     ensures { result ≡ lost_now cut }
 {
-    match cut {
-        Some(Cut { calls, kept }) => { if calls <= 1 { Some(kept) } else { None } }
-        None => None,
-    }
+    cut.filter(|c| c.calls <= 1).map(|c| c.kept)
 }

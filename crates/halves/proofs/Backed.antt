@@ -1,13 +1,14 @@
 -- What the synced half has of each file, as calls change the halves.
-use Rattle.std.proofs.Common.{◌≡◌, ℕ, zero, suc, ◌<◌, Bool, true, false, cond, Some, None, Option, sym, refl, ap, ◌∙◌, subst}
+use Rattle.std.proofs.Common.{◌≡◌, ℕ, zero, suc, ◌<◌, Bool, true, false, cond, Some, None, Option, Result, sym, refl, ap, ◌∙◌, subst}
+use Rattle.card.specs.declared.fault.Cause.{Cause}
 use native.Mathlib.Decide.{ℕ_discrete}
 use Rattle.std.proofs.lemmas.Bool.{both_ways}
 use Rattle.card.specs.Meaning.{Bytes, Name}
 use Rattle.card.specs.Calls.{Op, create, sync, delete}
 use Rattle.card.proofs.Every.{some_none}
 use Rattle.image.specs.Layout.{named, content, slot, held, first_of, or_else, FirstSlot}
-use Rattle.image.specs.Stored.{Done, moves}
-use Rattle.halves.specs.Halves.{backed, backing, PairDone, Settled}
+use Rattle.image.specs.Stored.{Done, Stored, Left, refusal, moves}
+use Rattle.halves.specs.Halves.{backed, backing, PairDone, PairLeft, Paired, Settled}
 use Rattle.image.proofs.Named.{not_named}
 use Rattle.image.proofs.First.{first_same, first_at}
 use Rattle.image.proofs.Files.{held_at, held_none, done_looked}
@@ -65,6 +66,16 @@ pair_stays op n current synced current' done still keeps =
       own = backed_moved op n n current synced current' done (λ t. absurd (both_ways (moves op) still t)) ∙ sym (keeps (held current n) (backed current synced n));
       others = λ m ne. backed_moved op n m current synced current' done (λ t. ne);
     }
+
+-- a call on the current half alone
+pub stored_paired :
+    {V : Type 0} (op : Op) (n : Name) (current synced : Bytes) {r : Result V Cause} {current' : Bytes} →
+    Stored op n current r current' → moves op ≡ false → ((c s : Option Bytes) → backing op c s ≡ s) → Paired op n current synced r current' synced
+stored_paired op n current synced {r} {current'} stored still keeps = record { answer = stored.answer; left = by (refusal r) stored.left }
+  where
+    by : (x : Option Cause) → Left x op n current current' → PairLeft x op n current synced current' synced
+    by None done = pair_stays op n current synced current' done still keeps
+    by (Some x) e = (e, refl)
 
 pub pair_synced : (n : Name) (current synced synced' : Bytes) (k : ℕ) → FirstSlot (named n) current (Some k) → Settled current synced k synced' → PairDone sync n current synced current synced'
 pair_synced n current synced synced' k found settled =

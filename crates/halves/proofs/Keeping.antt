@@ -4,7 +4,7 @@ use Rattle.std.proofs.lemmas.Bool.{cases_Bool}
 use Rattle.card.specs.Meaning.{Bytes, Name}
 use Rattle.card.specs.Calls.{overwrite}
 use Rattle.card.proofs.Every.{some_none}
-use Rattle.halves.specs.declared.loss.Kept.{Kept}
+use Rattle.halves.specs.declared.kept.Kept.{Kept}
 use Rattle.image.specs.Layout.{named, content, slot, slot_size, held, first_of, or_else, free_slots}
 use Rattle.halves.specs.Halves.{backed, kept_content, kept_of, KeptAs, KeptBelow}
 use Rattle.image.proofs.Named.{named_front, free_front, named_parts}

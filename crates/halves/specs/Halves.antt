@@ -5,8 +5,8 @@ use Rattle.std.specs.List.{range_with_len}
 use Rattle.card.specs.declared.fault.Cause.{Cause}
 use Rattle.card.specs.Meaning.{Bytes, Name}
 use Rattle.card.specs.Calls.{Op, length_of, read, create, write, set_length, sync, delete}
-use Rattle.halves.specs.declared.loss.Kept.{Kept}
-use Rattle.halves.specs.declared.loss.Kept.TheVariants.{Synced, Current, Mixed}
+use Rattle.halves.specs.declared.kept.Kept.{Kept}
+use Rattle.halves.specs.declared.kept.Kept.TheVariants.{Synced, Current, Mixed}
 use Rattle.image.specs.Layout.{content, slot, slot_count, held, first_of, free_slots}
 use Rattle.image.specs.Stored.{Done, answer_of, refusal}
 

@@ -1,12 +1,23 @@
-// The calls that change both halves.
-ghost use Rattle.std.specs.Prelude.{◌≡◌, ℕ, ◌+◌, ◌-◌, ◌*◌, ◌/◌, ◌^◌, ◌<◌, ◌≤◌, List, [], length as count, Some, None, ◌≢◌};
-ghost use Rattle.card.specs.declared.fault.Cause.TheVariants.{Device};
-ghost use Rattle.card.specs.Calls.Op.{create as creating, sync as syncing, delete as deleting};
-ghost use Rattle.image.specs.Stored.{refusal};
-ghost use Rattle.halves.specs.Halves.{Settled, Paired};
+// The two halves of an image, and each call's work on them.
+ghost use Rattle.std.specs.Prelude.{◌≡◌, ℕ, ◌+◌, ◌-◌, ◌*◌, ◌/◌, ◌^◌, ◌<◌, ◌≤◌, List, [], length as count, Some, None, IfOk, ◌≢◌};
+ghost use Rattle.card.specs.Calls.{length_told};
+ghost use Rattle.card.specs.Calls.Op.{length_of, read as reading, create as creating, write as writing, set_length, sync as syncing, delete as deleting};
+ghost use Rattle.image.specs.Layout.{held};
+ghost use Rattle.image.specs.Stored.{Empty, ReadInto};
+ghost use Rattle.halves.specs.Halves.{Settled, KeptAs};
 
+use crate::kept::Kept;
+use crate::loss;
 use card::Cause;
 use image::{SLOTS, start};
+
+/// An image in two halves of equal size: what its files hold now, and what is surely kept of them.
+#[derive(Drop)]
+pub struct Halves<'a> {
+    current: &'a mut [u8],
+    synced: &'a mut [u8],
+    ghost equal: { count current.now ≡ count synced.now },
+}
 
 /// Copies a slot of the current half over the same slot of the synced half.
 fn settle(current: &[u8], synced: &mut [u8], k: usize)
@@ -19,44 +30,90 @@ fn settle(current: &[u8], synced: &mut [u8], k: usize)
     synced[at..end].copy_from_slice(&current[at..end]);
 }
 
-/// Makes an empty file in both halves.
-pub fn create(current: &mut [u8], synced: &mut [u8], name: &[u8]) -> Result<(), Cause>
-    ensures paired { count current.old ≡ count synced.old → Paired creating name.now current.old synced.old result current.new synced.new }
-    ensures unequal { (count current.old ≢ count synced.old) → (refusal result ≡ Some Device) × (current.new ≡ current.old) × (synced.new ≡ synced.old) }
-{
-    if current.len() != synced.len() {
-        return Err(Cause::Device);
-    }
-    image::create(current, name)?;
-    if let Some(k) = image::find(current, name) {
-        settle(current, synced, k);
-    }
-    Ok(())
-}
+impl Halves<'_> {
+    ghost use Rattle.halves.specs.Answers.{Answers};
 
-/// Makes what the file holds now what is surely kept of it.
-pub fn sync(current: &mut [u8], synced: &mut [u8], name: &[u8]) -> Result<(), Cause>
-    ensures paired { count current.old ≡ count synced.old → Paired syncing name.now current.old synced.old result current.new synced.new }
-    ensures unequal { (count current.old ≢ count synced.old) → (refusal result ≡ Some Device) × (current.new ≡ current.old) × (synced.new ≡ synced.old) }
-{
-    if current.len() != synced.len() {
-        return Err(Cause::Device);
+    /// Makes the two halves of an image, the synced one first, with no file in them.
+    pub fn new(image: &mut [u8]) -> Halves<'_>
+        ensures current { Empty result.current.now }
+        ensures synced { Empty result.synced.now }
+        ensures size { (count result.current.now ≡ count image.old / 2) × (count result.synced.now ≡ count image.old / 2) }
+    {
+        let size = image.len() / 2;
+        let (synced, rest) = image.split_at_mut(size);
+        let (current, _) = rest.split_at_mut(size);
+        image::clear(synced);
+        image::clear(current);
+        Halves { current, synced }
     }
-    let k = image::present(current, name)?;
-    settle(current, synced, k);
-    Ok(())
-}
 
-/// Makes a present file absent in both halves.
-pub fn delete(current: &mut [u8], synced: &mut [u8], name: &[u8]) -> Result<(), Cause>
-    ensures paired { count current.old ≡ count synced.old → Paired deleting name.now current.old synced.old result current.new synced.new }
-    ensures unequal { (count current.old ≢ count synced.old) → (refusal result ≡ Some Device) × (current.new ≡ current.old) × (synced.new ≡ synced.old) }
-{
-    if current.len() != synced.len() {
-        return Err(Cause::Device);
+    /// How many bytes the file has; none if it is absent.
+    pub fn length(&mut self, name: &[u8]) -> Result<Option<u32>, Cause>
+        ensures paired { Answers length_of name.now self.old result self.new }
+        ensures told { IfOk result (λ told. told ≡ length_told (held self.old.current.now name.now)) }
+    {
+        image::length(self.current, name)
     }
-    let k = image::present(current, name)?;
-    image::delete(current, name)?;
-    settle(current, synced, k);
-    Ok(())
+
+    /// Fills the buffer with the file's bytes from a place on.
+    pub fn read(&mut self, name: &[u8], place: u32, buffer: &mut [u8]) -> Result<(), Cause>
+        ensures paired { Answers (reading place (count buffer.old)) name.now self.old result self.new }
+        ensures told { ReadInto (held self.old.current.now name.now) place buffer.old result buffer.new }
+    {
+        image::read(self.current, name, place, buffer)
+    }
+
+    /// Makes an empty file in both halves.
+    pub fn create(&mut self, name: &[u8]) -> Result<(), Cause>
+        ensures { Answers creating name.now self.old result self.new }
+    {
+        let current = &mut *self.current;
+        image::create(current, name)?;
+        if let Some(k) = image::find(current, name) {
+            settle(current, self.synced, k);
+        }
+        Ok(())
+    }
+
+    /// Puts bytes into the file from a place on.
+    pub fn write(&mut self, name: &[u8], place: u32, bytes: &[u8]) -> Result<(), Cause>
+        ensures { Answers (writing place bytes.now) name.now self.old result self.new }
+    {
+        image::write(self.current, name, place, bytes)
+    }
+
+    /// Cuts the file, or fills it with zeros, to a length.
+    pub fn set_length(&mut self, name: &[u8], length: u32) -> Result<(), Cause>
+        ensures { Answers (set_length length) name.now self.old result self.new }
+    {
+        image::set_length(self.current, name, length)
+    }
+
+    /// Makes what the file holds now what is surely kept of it.
+    pub fn sync(&mut self, name: &[u8]) -> Result<(), Cause>
+        ensures { Answers syncing name.now self.old result self.new }
+    {
+        let current = &mut *self.current;
+        let k = image::present(current, name)?;
+        settle(current, self.synced, k);
+        Ok(())
+    }
+
+    /// Makes a present file absent in both halves.
+    pub fn delete(&mut self, name: &[u8]) -> Result<(), Cause>
+        ensures { Answers deleting name.now self.old result self.new }
+    {
+        let current = &mut *self.current;
+        let k = image::present(current, name)?;
+        image::delete(current, name)?;
+        settle(current, self.synced, k);
+        Ok(())
+    }
+
+    /// Leaves what is kept of each file in both halves.
+    pub fn keep(&mut self, choice: Kept)
+        ensures { KeptAs choice self.old.current.now self.old.synced.now self.new.current.now self.new.synced.now }
+    {
+        loss::keep(self.current, self.synced, choice);
+    }
 }

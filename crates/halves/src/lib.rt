@@ -5,7 +5,8 @@
 #![tactic(auto)]
 
 mod both;
+mod kept;
 mod loss;
 
-pub use both::{create, delete, sync};
-pub use loss::{Kept, keep};
+pub use both::Halves;
+pub use kept::{Kept, UnknownKept};

@@ -3,18 +3,8 @@ ghost use Rattle.std.specs.Prelude.{◌≡◌, ℕ, ◌+◌, ◌-◌, ◌*◌, �
 ghost use Rattle.image.specs.Layout.{content};
 ghost use Rattle.halves.specs.Halves.{mixed, kept_content, KeptAs, KeptBelow, MixedBelow, mixed_byte};
 
+use crate::kept::Kept;
 use image::{FILE_LENGTH, HEAD, SLOTS, file_length, put_length, start};
-
-/// What a power failure keeps of each file.
-#[derive(Clone, Copy, PartialEq, Eq, Debug)]
-pub enum Kept {
-    /// What was synced.
-    Synced,
-    /// What the file holds now.
-    Current,
-    /// Even places from the current content, odd ones from the synced, at the longer length.
-    Mixed,
-}
 
 /// The byte at a place of a slot's file, or zero past its end.
 fn byte_at(slot: &[u8], length: usize, place: usize) -> u8
@@ -84,13 +74,10 @@ fn choose(current: &mut [u8], synced: &[u8], choice: Kept)
 }
 
 /// Leaves what is kept of each file in both halves.
-pub fn keep(current: &mut [u8], synced: &mut [u8], choice: Kept)
-    ensures kept { count current.old ≡ count synced.old → KeptAs choice current.old synced.old current.new synced.new }
-    ensures unequal { (count current.old ≢ count synced.old) → (current.new ≡ current.old) × (synced.new ≡ synced.old) }
+pub(crate) fn keep(current: &mut [u8], synced: &mut [u8], choice: Kept)
+    requires { count current.old ≡ count synced.old }
+    ensures { KeptAs choice current.old synced.old current.new synced.new }
 {
-    if current.len() != synced.len() {
-        return;
-    }
     if current.len() / SLOTS < HEAD {
         return;
     }

@@ -4,7 +4,7 @@ use Rattle.std.proofs.lemmas.Slice.{take-put_mid_below}
 use Rattle.std.proofs.lemmas.List.{take_rest, drop_at, length-take-le, append-nil, drop_all}
 use Rattle.card.specs.Meaning.{Bytes}
 use Rattle.image.specs.Layout.{content}
-use Rattle.halves.specs.declared.loss.Kept.{Kept}
+use Rattle.halves.specs.declared.kept.Kept.{Kept}
 use Rattle.halves.specs.Halves.{kept_content}
 use Rattle.halves.proofs.Mixing.{content_after}
 use Rattle.halves.proofs.loss.choose.Goals as goal

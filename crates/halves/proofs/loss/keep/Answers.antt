@@ -10,10 +10,10 @@ use Rattle.halves.proofs.loss.keep.Goals as goal
 
 pub returns-then-current-lt-HEAD : goal.returns-then-current-lt-HEAD
 returns-then-current-lt-HEAD c =
-    record { kept = λ e. kept_small c.args.choice c.args.current.now c.args.synced.now c.if-current-lt-HEAD.true; unequal = λ ne. (refl, refl) }
+    kept_small c.args.choice c.args.current.now c.args.synced.now c.if-current-lt-HEAD.true
 
 pub loop-k-init : goal.loop-k-init
-loop-k-init c = (c.if-current-synced.false, kept_none c.args.choice c.args.current.now c.args.synced.now)
+loop-k-init c = (c.requires, kept_none c.args.choice c.args.current.now c.args.synced.now)
 
 pub loop-k-preserved : goal.loop-k-preserved
 loop-k-preserved c =
@@ -43,14 +43,11 @@ loop-k-preserved c =
     let put-synced : put_mid at (at + slot_size current - at) synced copy ≡ overwrite synced (k * slot_size synced) new =
     ap (λ (n : ℕ). put_mid at (at + n - at) synced copy) size ∙ slot_write synced copy k at where-synced whole_copy ∙ ap (λ (x : Bytes). overwrite synced (k * slot_size synced) x) copied in
     let bytes = c.choose.ensures.content ∙ ap₂ (λ (a b : Bytes). kept_content c.args.choice (content a) (content b)) part (ap (λ (n : ℕ). take (at + n - at) (drop at synced)) size ∙ part-synced) in
-    let more = kept_more c.args.choice c.args.current.now c.args.synced.now k current synced new _ _ in_image c.loop-k.invariant.1 c.if-current-synced.false whole (c.choose.ensures.name ∙ ap (take 33) part) bytes put put-synced in
-    (more.long ∙ c.if-current-synced.false ∙ sym more.long_synced, more)
+    let more = kept_more c.args.choice c.args.current.now c.args.synced.now k current synced new _ _ in_image c.loop-k.invariant.1 c.requires whole (c.choose.ensures.name ∙ ap (take 33) part) bytes put put-synced in
+    (more.long ∙ c.requires ∙ sym more.long_synced, more)
 
 pub returns : goal.returns
 returns c =
     let all : c.loop-k.k ≡ 16 = omega arith in
-    record {
-      kept = λ e. kept_as c.args.choice c.args.current.now c.args.synced.now c.loop-k.current c.loop-k.synced
-          (subst (λ (k : ℕ). KeptBelow c.args.choice c.args.current.now c.args.synced.now k c.loop-k.current c.loop-k.synced) all c.loop-k.invariant.1);
-      unequal = λ ne. absurd (ne c.if-current-synced.false);
-    }
+    kept_as c.args.choice c.args.current.now c.args.synced.now c.loop-k.current c.loop-k.synced
+    (subst (λ (k : ℕ). KeptBelow c.args.choice c.args.current.now c.args.synced.now k c.loop-k.current c.loop-k.synced) all c.loop-k.invariant.1)

@@ -1,0 +1,7 @@
+use Rattle.std.proofs.Common.{refl}
+use Rattle.card.specs.Calls.{set_length}
+use Rattle.halves.proofs.Backed.{stored_paired}
+use Rattle.halves.proofs.both.Halves.set_length.Goals as goal
+
+pub returns : goal.returns
+returns c = stored_paired (set_length c.args.length) _ _ _ c.set_length.ensures refl (λ a b. refl)
