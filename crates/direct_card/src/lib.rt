@@ -5,7 +5,6 @@ ghost use Rattle.std.specs.Prelude.{◌≡◌, ℕ, true, length as count, Some}
 ghost use Rattle.card.specs.Meaning.{Switched};
 ghost use Rattle.card.specs.Calls.{Answered, ToldLength, ToldBytes};
 ghost use Rattle.card.specs.Calls.Op.{length_of, read as reading, create as creating, write as writing, set_length, sync as syncing, delete as deleting};
-ghost use Rattle.image.specs.Layout.{held};
 ghost use Rattle.image.specs.Stored.{Empty};
 ghost use Rattle.direct_card.specs.Direct.{direct, Direct};
 ghost use Rattle.std.proofs.Common.{rules};
@@ -32,16 +31,16 @@ impl DirectCard<'_> {
     }
 }
 
+#[tactic(auto, using(crate::proofs::Answered::image_answered))]
 impl<'a> Card for DirectCard<'a> {
-    ghost meaning = { direct (λ c. c.image.now) (λ c. c.origin) };
+    ghost meaning = { direct };
 
     ghost lawful = { Prim.search rules };
 
     fn length(&mut self, name: &[u8]) -> Result<Option<u32>, CardFault>
-        ensures answered { Answered (direct (λ c. c.image.now) (λ c. c.origin)) self.old name.now length_of result self.new }
-        ensures told { ToldLength (held self.old.image.now name.now) result }
-        ensures direct { Direct length_of name.now self.old.origin self.old.image.now result self.new.image.now }
-        ensures origin { self.new.origin ≡ self.old.origin }
+        ensures answered { Answered direct self.old name.now length_of result self.new }
+        ensures told { ToldLength (direct.holds self.old name.now) result }
+        ensures direct { Direct length_of name.now self.old result self.new }
     {
         blame(
             image::length(self.image, name),
@@ -51,10 +50,9 @@ impl<'a> Card for DirectCard<'a> {
     }
 
     fn read(&mut self, name: &[u8], place: u32, buffer: &mut [u8]) -> Result<(), CardFault>
-        ensures answered { Answered (direct (λ c. c.image.now) (λ c. c.origin)) self.old name.now (reading place (count buffer.old)) result self.new }
-        ensures told { ToldBytes (held self.old.image.now name.now) place buffer.old result buffer.new }
-        ensures direct { Direct (reading place (count buffer.old)) name.now self.old.origin self.old.image.now result self.new.image.now }
-        ensures origin { self.new.origin ≡ self.old.origin }
+        ensures answered { Answered direct self.old name.now (reading place (count buffer.old)) result self.new }
+        ensures told { ToldBytes (direct.holds self.old name.now) place buffer.old result buffer.new }
+        ensures direct { Direct (reading place (count buffer.old)) name.now self.old result self.new }
     {
         blame(
             image::read(self.image, name, place, buffer),
@@ -64,9 +62,8 @@ impl<'a> Card for DirectCard<'a> {
     }
 
     fn create(&mut self, name: &[u8]) -> Result<(), CardFault>
-        ensures answered { Answered (direct (λ c. c.image.now) (λ c. c.origin)) self.old name.now creating result self.new }
-        ensures direct { Direct creating name.now self.old.origin self.old.image.now result self.new.image.now }
-        ensures origin { self.new.origin ≡ self.old.origin }
+        ensures answered { Answered direct self.old name.now creating result self.new }
+        ensures direct { Direct creating name.now self.old result self.new }
     {
         blame(
             image::create(self.image, name),
@@ -76,9 +73,8 @@ impl<'a> Card for DirectCard<'a> {
     }
 
     fn write(&mut self, name: &[u8], place: u32, bytes: &[u8]) -> Result<(), CardFault>
-        ensures answered { Answered (direct (λ c. c.image.now) (λ c. c.origin)) self.old name.now (writing place bytes.now) result self.new }
-        ensures direct { Direct (writing place bytes.now) name.now self.old.origin self.old.image.now result self.new.image.now }
-        ensures origin { self.new.origin ≡ self.old.origin }
+        ensures answered { Answered direct self.old name.now (writing place bytes.now) result self.new }
+        ensures direct { Direct (writing place bytes.now) name.now self.old result self.new }
     {
         blame(
             image::write(self.image, name, place, bytes),
@@ -88,9 +84,8 @@ impl<'a> Card for DirectCard<'a> {
     }
 
     fn set_length(&mut self, name: &[u8], length: u32) -> Result<(), CardFault>
-        ensures answered { Answered (direct (λ c. c.image.now) (λ c. c.origin)) self.old name.now (set_length length) result self.new }
-        ensures direct { Direct (set_length length) name.now self.old.origin self.old.image.now result self.new.image.now }
-        ensures origin { self.new.origin ≡ self.old.origin }
+        ensures answered { Answered direct self.old name.now (set_length length) result self.new }
+        ensures direct { Direct (set_length length) name.now self.old result self.new }
     {
         blame(
             image::set_length(self.image, name, length),
@@ -100,17 +95,15 @@ impl<'a> Card for DirectCard<'a> {
     }
 
     fn sync(&mut self, name: &[u8]) -> Result<(), CardFault>
-        ensures answered { Answered (direct (λ c. c.image.now) (λ c. c.origin)) self.old name.now syncing result self.new }
-        ensures direct { Direct syncing name.now self.old.origin self.old.image.now result self.new.image.now }
-        ensures origin { self.new.origin ≡ self.old.origin }
+        ensures answered { Answered direct self.old name.now syncing result self.new }
+        ensures direct { Direct syncing name.now self.old result self.new }
     {
         blame(image::sync(self.image, name), CardCall::Sync, self.origin)
     }
 
     fn delete(&mut self, name: &[u8]) -> Result<(), CardFault>
-        ensures answered { Answered (direct (λ c. c.image.now) (λ c. c.origin)) self.old name.now deleting result self.new }
-        ensures direct { Direct deleting name.now self.old.origin self.old.image.now result self.new.image.now }
-        ensures origin { self.new.origin ≡ self.old.origin }
+        ensures answered { Answered direct self.old name.now deleting result self.new }
+        ensures direct { Direct deleting name.now self.old result self.new }
     {
         blame(
             image::delete(self.image, name),
@@ -120,7 +113,7 @@ impl<'a> Card for DirectCard<'a> {
     }
 
     fn power(&mut self)
-        ensures switched { Switched (direct (λ c. c.image.now) (λ c. c.origin)) self.old self.new }
+        ensures switched { Switched direct self.old self.new }
         ensures image { self.new.image.now ≡ self.old.image.now }
         ensures origin { self.new.origin ≡ self.old.origin }
     {
