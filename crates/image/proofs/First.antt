@@ -1,9 +1,9 @@
 -- The first slot of a name among the first k, and how many are free.
-use Rattle.std.proofs.Common.{◌≡◌, ℕ, zero, suc, ◌+◌, ◌<◌, ◌≤◌, Bool, true, false, cond, ◌⊎◌, Some, None, Option, sym, refl, ap, ◌∙◌, subst, ap₂, inl, inr, arith}
+use Rattle.std.proofs.Common.{◌≡◌, ℕ, zero, suc, ◌+◌, ◌<◌, ◌≤◌, Bool, true, false, cond, ◌⊎◌, Some, None, Option, MatchOption, sym, refl, ap, ◌∙◌, subst, ap₂, inl, inr, arith}
 use native.Mathlib.Decide.{ℕ_discrete}
 use Rattle.std.proofs.lemmas.Bool.{cases_Bool}
 use Rattle.card.specs.Meaning.{Bytes, Name}
-use Rattle.image.specs.Layout.{named, free, first_of, or_else, free_below, one_if}
+use Rattle.image.specs.Layout.{named, free, slot, first_of, or_else, free_below, one_if, FirstSlot}
 
 module _ (n : Name) where
   -- slots named alike, with the same belonging to those that have the name
@@ -118,3 +118,10 @@ unfolding free_below
 free_all f zero all = refl
 free_all f (suc k) all =
     omega (arith, free_all f k (λ j lt. all j (omega arith)), ap one_if (all k (omega arith)))
+
+-- what a search of the 16 slots in their order finds
+pub first_slot :
+    (is : Bytes → Bool) (image : Bytes) (r : Option ℕ) →
+    MatchOption r ((k : ℕ) → 0 ≤ k → k < 16 → is (slot image k) ≡ false) (λ i. (0 ≤ i) × (i < 16) × (is (slot image i) ≡ true) × ((k : ℕ) → 0 ≤ k → k < i → is (slot image k) ≡ false)) → FirstSlot is image r
+first_slot is image None none = λ k lt. none k (omega arith) lt
+first_slot is image (Some i) (le, lt, found, before) = (lt, found, λ j below. before j (omega arith) below)

@@ -8,12 +8,9 @@ use card::{CardCall, CardFault, Cause};
 pub fn blame<T>(answer: Result<T, Cause>, call: CardCall, origin: u8) -> Result<T, CardFault>
     ensures { result ≡ blamed call origin answer }
 {
-    match answer {
-        Ok(value) => Ok(value),
-        Err(cause) => Err(CardFault {
-            cause,
-            call,
-            origin,
-        }),
-    }
+    answer.map_err(|cause| CardFault {
+        cause,
+        call,
+        origin,
+    })
 }

@@ -36,24 +36,14 @@ fn slot_at(image: &[u8], k: usize) -> &[u8]
 pub fn find(image: &[u8], name: &[u8]) -> Option<usize>
     ensures { FirstSlot (named name.now) image.now result }
 {
-    for k in 0..SLOTS {
-        if slot::is_named(slot_at(image, k), name) {
-            return Some(k);
-        }
-    }
-    None
+    (0..SLOTS).find(|k| slot::is_named(slot_at(image, *k), name))
 }
 
 /// The first free slot.
 fn find_free(image: &[u8]) -> Option<usize>
     ensures { FirstSlot free image.now result }
 {
-    for k in 0..SLOTS {
-        if slot::is_free(slot_at(image, k)) {
-            return Some(k);
-        }
-    }
-    None
+    (0..SLOTS).find(|k| slot::is_free(slot_at(image, *k)))
 }
 
 /// Whether a name has a lawful length.
