@@ -1,9 +1,9 @@
 -- What a call does to the files of an image, and exactly when it is refused.
-use Rattle.std.specs.Prelude.{◌≡◌, ℕ, suc, ◌+◌, ◌<◌, ◌≤◌, Bool, true, false, cond, length, Some, None, Ok, Err, Option, Result, ◌==◌, ◌≢◌, nat_le, nat_lt}
+use Rattle.std.specs.Prelude.{◌≡◌, ℕ, suc, ◌+◌, ◌*◌, ◌<◌, ◌≤◌, Bool, true, false, cond, length, Some, None, Ok, Err, Option, Result, ◌==◌, ◌≢◌, nat_le, nat_lt}
 use Rattle.card.specs.declared.fault.Cause.{Cause}
 use Rattle.card.specs.declared.fault.Cause.TheVariants.{Device, Absent}
 use Rattle.card.specs.Meaning.{Bytes, Name}
-use Rattle.card.specs.Calls.{Op, length_of, read, create, write, set_length, sync, delete, tested, worked, after_name, name_ok, part_of}
+use Rattle.card.specs.Calls.{Op, length_of, read, create, write, set_length, sync, delete, tested, worked, after_name, name_ok, part_of, overwrite}
 use Rattle.image.specs.Layout.{held, slot, slot_count, room, first_of, free_slots, FirstSlot, named, free, slot_size, head_size}
 
 -- the image has no room for the call's work: no free slot for a new file, or a file would outgrow its slot
@@ -89,3 +89,7 @@ pub record Freed (is : Bytes → Bool) (image : Bytes) (k : ℕ) (image' : Bytes
 pub record Empty (image : Bytes) : Type 0 where
   pub none : (n : Name) → held image n ≡ None
   pub free : free_slots image ≡ cond (nat_le head_size (slot_size image)) slot_count 0
+
+-- some work was done on the slot k of an image, and nothing else changed
+abbrev pub SlotDone : (Bytes → Unit {0} → Bytes → Type 0) → ℕ → Bytes → Bytes → Type 0
+SlotDone Work k image image' = (new : Bytes) × Work (slot image k) tt new × (length new ≡ slot_size image) × (image' ≡ overwrite image (k * slot_size image) new)

@@ -3,7 +3,7 @@ ghost use Rattle.image.specs.Stored.{Empty};
 
 use crate::slot;
 use crate::slot::HEAD;
-use crate::slots::{SLOTS, start};
+use crate::slots::{SLOTS, at_slot};
 
 /// Makes an image with no file in it.
 pub fn clear(image: &mut [u8])
@@ -13,8 +13,6 @@ pub fn clear(image: &mut [u8])
         return;
     }
     for k in 0..SLOTS {
-        let at = start(image, k);
-        let end = at + image.len() / SLOTS;
-        slot::release(&mut image[at..end]);
+        at_slot(image, k, |slot| slot::release(slot));
     }
 }

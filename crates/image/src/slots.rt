@@ -1,10 +1,11 @@
 // The files of an image: 16 equal slots, and each call's work on them.
 ghost use Rattle.std.specs.Prelude.{◌≡◌, ℕ, ◌+◌, ◌-◌, ◌*◌, ◌/◌, ◌^◌, ◌<◌, ◌≤◌, true, false, leb, List, [], length as count, IfOk, if◌then◌else◌, Some, None, nat_le};
+ghost use Rattle.std.specs.Fn.{FnOnceTakesAtMut, FnOnceReturnsAtMut};
 ghost use Rattle.card.specs.declared.fault.Cause.TheVariants.{Absent, Range};
 ghost use Rattle.card.specs.Calls.{after_name, name_ok, length_told};
 ghost use Rattle.card.specs.Calls.Op.{length_of, read as reading, create as creating, write as writing, set_length, sync as syncing, delete as deleting};
 ghost use Rattle.image.specs.Layout.{FirstSlot, slot as slot_of, named, free, held, content, room as room_of};
-ghost use Rattle.image.specs.Stored.{Stored, PresentAt, ReadInto, Freed};
+ghost use Rattle.image.specs.Stored.{Stored, PresentAt, ReadInto, Freed, SlotDone};
 
 use crate::slot;
 use crate::slot::HEAD;
@@ -30,6 +31,17 @@ fn slot_at(image: &[u8], k: usize) -> &[u8]
 {
     let at = start(image, k);
     &image[at..at + image.len() / SLOTS]
+}
+
+/// Does some work on a slot of the image.
+pub(crate) fn at_slot<F: FnOnce(&mut [u8])>(image: &mut [u8], k: usize, work: F)
+    requires within { k < 16 }
+    requires callable { FnOnceTakesAtMut F.FnOnce work (slot_of image.old k) }
+    ensures { SlotDone (FnOnceReturnsAtMut F.FnOnce work) k image.old image.new }
+{
+    let at = start(image, k);
+    let end = at + image.len() / SLOTS;
+    work(&mut image[at..end]);
 }
 
 /// The first slot that has the file of that name.
@@ -126,9 +138,7 @@ pub fn create(image: &mut [u8], name: &[u8]) -> Result<(), Cause>
     let Some(k) = find_free(image) else {
         return Err(Cause::Device);
     };
-    let at = start(image, k);
-    let end = at + image.len() / SLOTS;
-    slot::claim(&mut image[at..end], name);
+    at_slot(image, k, |slot| slot::claim(slot, name));
     Ok(())
 }
 
@@ -143,9 +153,11 @@ pub fn write(image: &mut [u8], name: &[u8], place: u32, bytes: &[u8]) -> Result<
     if !ends_within(place, bytes.len(), room(image)) {
         return Err(Cause::Device);
     }
-    let at = start(image, k);
-    let end = at + image.len() / SLOTS;
-    slot::put_bytes(&mut image[at..end], place as usize, bytes);
+    at_slot(
+        image,
+        k,
+        |slot| slot::put_bytes(slot, place as usize, bytes),
+    );
     Ok(())
 }
 
@@ -161,9 +173,7 @@ pub fn set_length(image: &mut [u8], name: &[u8], length: u32) -> Result<(), Caus
     if length > room(image) {
         return Err(Cause::Device);
     }
-    let at = start(image, k);
-    let end = at + image.len() / SLOTS;
-    slot::resize(&mut image[at..end], length);
+    at_slot(image, k, |slot| slot::resize(slot, length));
     Ok(())
 }
 
@@ -180,10 +190,8 @@ fn free_all(image: &mut [u8], name: &[u8])
     ensures { Freed (named name.now) image.old 16 image.new }
 {
     for k in 0..SLOTS {
-        let at = start(image, k);
-        let end = at + image.len() / SLOTS;
-        if slot::is_named(&image[at..end], name) {
-            slot::release(&mut image[at..end]);
+        if slot::is_named(slot_at(image, k), name) {
+            at_slot(image, k, |slot| slot::release(slot));
         }
     }
 }

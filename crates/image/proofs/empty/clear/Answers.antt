@@ -1,7 +1,7 @@
-use Rattle.std.proofs.Common.{◌≡◌, ℕ, ◌<◌, true, length, refl, ap, ◌∙◌, subst, arith}
-use Rattle.image.specs.Layout.{slot_size}
+use Rattle.std.proofs.Common.{rules, ◌≡◌, ℕ, ◌<◌, ◌≤◌, true, length, refl, subst, arith}
+use Rattle.image.specs.Layout.{free, slot}
 use Rattle.image.specs.Stored.{Freed}
-use Rattle.image.proofs.Slices.{slot_part, slot_write, length_slot}
+use Rattle.image.proofs.Slices.{length_slot}
 use Rattle.image.proofs.Freeing.{freed_none, freed_more, empty_freed, empty_small}
 use Rattle.image.proofs.empty.clear.Goals as goal
 
@@ -11,15 +11,19 @@ returns-then-image-lt-HEAD c = empty_small c.args.image.now c.if-image-lt-HEAD.t
 pub loop-k-init : goal.loop-k-init
 loop-k-init c = freed_none (λ s. true) c.args.image.now
 
+pub at_slot-requires : goal.at_slot-requires
+at_slot-requires c =
+    let in_image : c.loop-k.k < 16 = omega arith in
+    let long = length_slot c.loop-k.image c.loop-k.k in_image in
+    let head : 37 ≤ length (slot c.loop-k.image c.loop-k.k) = omega (arith, long, c.loop-k.invariant.long, c.if-image-lt-HEAD.false) in
+    record { within = in_image; callable = λ p is. let at : 37 ≤ length p.now = rw is head in search (rules, at) }
+
 pub loop-k-preserved : goal.loop-k-preserved
 loop-k-preserved c =
-    let image' = c.loop-k.image in
-    let k = c.loop-k.k in
-    let in_image : k < 16 = omega arith in
-    let new = c.release.new.slot in
-    let part = slot_part image' k c.start-at.result c.start-at.ensures.is in
-    let whole : length new ≡ slot_size image' = c.release.auto.slot ∙ ap length part ∙ length_slot image' k in_image in
-    freed_more (λ s. true) c.args.image.now k image' c.loop-k.invariant in_image new _ refl whole c.release.ensures (slot_write image' new k c.start-at.result c.start-at.ensures.is whole)
+    let in_image : c.loop-k.k < 16 = omega arith in
+    let done = c.at_slot.ensures in
+    let vacant : free done.0 ≡ true = search (rules, done) in
+    freed_more (λ s. true) c.args.image.now c.loop-k.k c.loop-k.image c.loop-k.invariant in_image done.0 _ refl done.2 vacant done.3
 
 pub returns : goal.returns
 returns c =

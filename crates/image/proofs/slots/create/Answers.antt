@@ -1,13 +1,13 @@
-use Rattle.std.proofs.Common.{◌≡◌, ℕ, ◌≤◌, true, false, length, is_some, Some, None, Option, sym, refl, ap, ◌∙◌, subst, arith}
+use Rattle.std.proofs.Common.{rules, ◌≡◌, ℕ, ◌≤◌, true, false, [], length, is_some, Some, None, Option, sym, refl, ap, ◌∙◌, subst, arith}
 use Rattle.std.proofs.lemmas.Bool.Decides.{nat_tests}
 use Rattle.std.proofs.lemmas.Bool.{both_ways}
 use Rattle.card.specs.declared.fault.Cause.TheVariants.{Present}
 use Rattle.card.specs.Meaning.{Bytes}
 use Rattle.card.specs.Calls.{create}
-use Rattle.image.specs.Layout.{named, slot, slot_size, FirstSlot}
+use Rattle.std.specs.Str.{bytes_eq}
+use Rattle.image.specs.Layout.{named, free, content, slot, FirstSlot}
 use Rattle.image.specs.Stored.{answer_of, or_device}
 use Rattle.image.proofs.Named.{free_head}
-use Rattle.image.proofs.Slices.{slot_part, slot_write, length_slot}
 use Rattle.image.proofs.Files.{answer_at, answer_named, refused, done_created, crowded_none, crowded_some}
 use Rattle.image.proofs.slots.create.Goals as goal
 
@@ -32,18 +32,14 @@ returns-in_default c =
     let ok = sym c.is_name.ensures ∙ c.if-not-is_name.false in
     refused create n image _ (sym (answer_named image n create none ok ∙ ap (or_device None) (crowded_none image c.in_default.ensures)))
 
-pub claim-requires : goal.claim-requires
-claim-requires c =
-    let image = c.args.image.now in
-    let k = c.in-Some.k in
+pub at_slot-requires : goal.at_slot-requires
+at_slot-requires c =
     let ok = sym c.is_name.ensures ∙ c.if-not-is_name.false in
     let vacant = c.in-Some.ensures in
-    let part = slot_part image k c.start-at.result c.start-at.ensures.is in
-    record {
-      head = subst (λ (s : Bytes). 37 ≤ length s) (sym part) (free_head (slot image k) vacant.1);
-      some = grind (arith, nat_tests, ok);
-      short = grind (arith, nat_tests, ok);
-    }
+    let head : 37 ≤ length (slot c.args.image.now c.in-Some.k) = free_head (slot c.args.image.now c.in-Some.k) vacant.1 in
+    let some : 1 ≤ length c.args.name.now = grind (arith, nat_tests, ok) in
+    let short : length c.args.name.now ≤ 32 = grind (arith, nat_tests, ok) in
+    record { within = vacant.0; callable = λ p is. let at : 37 ≤ length p.now = rw is head in search (rules, at, some, short) }
 
 pub returns : goal.returns
 returns c =
@@ -53,9 +49,10 @@ returns c =
     let none = nothing n image c.find.result c.find.ensures (sym c.is_some.ensures ∙ c.if-is_some.false) in
     let ok = sym c.is_name.ensures ∙ c.if-not-is_name.false in
     let vacant = c.in-Some.ensures in
-    let new = c.claim.new.slot in
-    let whole : length new ≡ slot_size image = c.claim.auto.slot ∙ ap length (slot_part image k c.start-at.result c.start-at.ensures.is) ∙ length_slot image k vacant.0 in
+    let done = c.at_slot.ensures in
+    let new = done.0 in
+    let work : (content new ≡ []) × ((m : Bytes) → named m new ≡ bytes_eq n m) × (free new ≡ false) = search (rules, done) in
     record {
       answer = sym (answer_named image n create none ok ∙ ap (or_device None) (crowded_some image k vacant));
-      left = done_created image n k new _ vacant.0 whole (slot_write image new k c.start-at.result c.start-at.ensures.is whole) none vacant.1 c.claim.ensures.content c.claim.ensures.named c.claim.ensures.taken;
+      left = done_created image n k new _ vacant.0 done.2 done.3 none vacant.1 work.0 work.1 work.2;
     }

@@ -1,11 +1,11 @@
-use Rattle.std.proofs.Common.{◌≡◌, ◌+◌, ◌≤◌, true, false, length, take, Some, sym, refl, ap, ◌∙◌, subst, arith}
+use Rattle.std.proofs.Common.{rules, ◌≡◌, ◌+◌, ◌^◌, ◌<◌, ◌≤◌, true, false, length, take, Some, sym, refl, ap, ◌∙◌, subst, arith}
 use Rattle.std.proofs.lemmas.Result.{err_from_is_err_and}
 use Rattle.std.proofs.lemmas.Bool.{lt-leb, le-leb, lt-ltb, le-ltb}
 use Rattle.card.specs.Meaning.{Bytes}
 use Rattle.card.specs.Calls.{set_length, resized, file_limit}
-use Rattle.image.specs.Layout.{content, slot, slot_size, room}
+use Rattle.image.specs.Layout.{content, slot, room}
 use Rattle.image.proofs.Named.{named_parts}
-use Rattle.image.proofs.Slices.{slot_part, slot_write, length_slot}
+use Rattle.image.proofs.Slices.{length_slot}
 use Rattle.image.proofs.Files.{answer_absent, answer_range, answer_room, done_changed, refused}
 use Rattle.image.proofs.slots.set_length.Goals as goal
 
@@ -30,17 +30,18 @@ returns-then-length-room c =
     refused op c.args.name.now image _
     (sym (answer_room image c.args.name.now op c.in_ok-k.k _ true c.in_ok-k.ensures refl (le-leb c.args.length file_limit c.if-length-gt-FILE_LIMIT.false) full))
 
-pub resize-requires : goal.resize-requires
-resize-requires c =
+pub at_slot-requires : goal.at_slot-requires
+at_slot-requires c =
     let image = c.args.image.now in
     let k = c.in_ok-k.k in
     let found = c.in_ok-k.ensures in
     let head = (named_parts c.args.name.now (slot image k) found.1).1 in
     let long = length_slot image k found.0 in
     let fits : 37 + c.args.length ≤ length (slot image k) = omega (arith, c.room.ensures) in
+    let small : c.args.length < 2 ^ 32 = omega arith in
     record {
-      fits = subst (λ (s : Bytes). 37 + c.args.length ≤ length s) (sym (slot_part image k c.start-at.result c.start-at.ensures.is)) fits;
-      small = omega arith;
+      within = found.0;
+      callable = λ p is. let room : 37 + c.args.length ≤ length p.now = rw is fits in search (rules, room, small);
     }
 
 pub returns : goal.returns
@@ -50,13 +51,11 @@ returns c =
     let k = c.in_ok-k.k in
     let op = set_length c.args.length in
     let found = c.in_ok-k.ensures in
-    let part = slot_part image k c.start-at.result c.start-at.ensures.is in
-    let new = c.resize.new.slot in
-    let long : length new ≡ length (slot image k) = c.resize.auto.slot ∙ ap length part in
-    let whole : length new ≡ slot_size image = long ∙ length_slot image k found.0 in
+    let done = c.at_slot.ensures in
+    let new = done.0 in
     let fits = le-ltb (room image) c.args.length (omega (arith, c.room.ensures)) in
-    let does = ap (λ (s : Bytes). Some (resized (content s) c.args.length)) (sym part) ∙ sym (ap Some c.resize.ensures.content) in
+    let work : (content new ≡ resized (content (slot image k)) c.args.length) × (take 33 new ≡ take 33 (slot image k)) = search (rules, done) in
     record {
       answer = sym (answer_room image n op k _ false found refl (le-leb c.args.length file_limit c.if-length-gt-FILE_LIMIT.false) fits);
-      left = done_changed image n k new _ found.0 whole (slot_write image new k c.start-at.result c.start-at.ensures.is whole) op found long (c.resize.ensures.name ∙ ap (take 33) part) (λ was is e. e) does;
+      left = done_changed image n k new _ found.0 done.2 done.3 op found (done.2 ∙ sym (length_slot image k found.0)) work.1 (λ was is e. e) (sym (ap Some work.0));
     }

@@ -1,12 +1,12 @@
-use Rattle.std.proofs.Common.{◌≡◌, ℕ, ◌+◌, ◌≤◌, Bool, true, false, cond, leb, length, take, Some, sym, refl, ap, ◌∙◌, subst, arith}
+use Rattle.std.proofs.Common.{rules, ◌≡◌, ℕ, ◌+◌, ◌^◌, ◌<◌, ◌≤◌, Bool, true, false, cond, leb, length, take, Some, sym, refl, ap, ◌∙◌, subst, arith}
 use Rattle.std.proofs.lemmas.Result.{err_from_is_err_and}
 use Rattle.std.proofs.lemmas.Bool.{leb-true, leb-false, lt-ltb, le-ltb}
 use Rattle.card.specs.Meaning.{Bytes}
 use Rattle.card.specs.Calls.{write, file_limit, overwrite}
 use Rattle.card.proofs.Tested.{passed_both}
-use Rattle.image.specs.Layout.{content, slot, slot_size, room}
+use Rattle.image.specs.Layout.{content, slot, room}
 use Rattle.image.proofs.Named.{named_parts}
-use Rattle.image.proofs.Slices.{slot_part, slot_write, length_slot}
+use Rattle.image.proofs.Slices.{length_slot}
 use Rattle.image.proofs.Files.{answer_absent, answer_range, answer_room, done_changed, refused}
 use Rattle.image.proofs.slots.write.Goals as goal
 
@@ -44,8 +44,8 @@ returns-then-not-ends_within c =
     let full = lt-ltb (room image) (c.args.place + length bytes) (omega (arith, over, c.room.ensures)) in
     refused op c.args.name.now image _ (sym (answer_room image c.args.name.now op c.in_ok-k.k _ true c.in_ok-k.ensures refl within full))
 
-pub put_bytes-requires : goal.put_bytes-requires
-put_bytes-requires c =
+pub at_slot-requires : goal.at_slot-requires
+at_slot-requires c =
     let image = c.args.image.now in
     let k = c.in_ok-k.k in
     let place = c.args.place in
@@ -58,12 +58,14 @@ put_bytes-requires c =
     let under = leb-true (place + length bytes) c.room.result (sym c.ends_within.ensures ∙ c.if-not-ends_within.false) in
     let fits : 37 + place + length bytes ≤ length (slot image k) = omega (arith, c.room.ensures, under, head, long) in
     let limit = leb-true (place + length bytes) file_limit both.1 in
-    let part = slot_part image k c.start-at.result c.start-at.ensures.is in
+    let small : place + length bytes < 2 ^ 32 = omega (arith, limit) in
     record {
-      head = subst (λ (s : Bytes). 37 ≤ length s) (sym part) head;
-      inside = subst (λ (s : Bytes). place ≤ length (content s)) (sym part) (leb-true place (length (content (slot image k))) both.0);
-      fits = subst (λ (s : Bytes). 37 + place + length bytes ≤ length s) (sym part) fits;
-      small = omega (arith, limit);
+      within = found.0;
+      callable = λ p is.
+          let at : 37 ≤ length p.now = rw is head in
+          let start : place ≤ length (content p.now) = rw is (leb-true place (length (content (slot image k))) both.0) in
+          let room : 37 + place + length bytes ≤ length p.now = rw is fits in
+          search (rules, at, start, room, small);
     }
 
 pub returns : goal.returns
@@ -74,15 +76,13 @@ returns c =
     let bytes = c.args.bytes.now in
     let op = write c.args.place bytes in
     let found = c.in_ok-k.ensures in
-    let part = slot_part image k c.start-at.result c.start-at.ensures.is in
-    let new = c.put_bytes.new.slot in
-    let long : length new ≡ length (slot image k) = c.put_bytes.auto.slot ∙ ap length part in
-    let whole : length new ≡ slot_size image = long ∙ length_slot image k found.0 in
+    let done = c.at_slot.ensures in
+    let new = done.0 in
     let within = inside c.args.place c.file_length.result (c.args.place + length bytes) _ _ c.slot_at.ensures.is c.file_length.ensures.is _ c.may_write.ensures ∙ c.if-not-may_write.false in
     let under = leb-true (c.args.place + length bytes) c.room.result (sym c.ends_within.ensures ∙ c.if-not-ends_within.false) in
     let fits = le-ltb (room image) (c.args.place + length bytes) (omega (arith, under, c.room.ensures)) in
-    let does = ap (λ (s : Bytes). Some (overwrite (content s) c.args.place bytes)) (sym part) ∙ sym (ap Some c.put_bytes.ensures.content) in
+    let work : (content new ≡ overwrite (content (slot image k)) c.args.place bytes) × (take 33 new ≡ take 33 (slot image k)) = search (rules, done) in
     record {
       answer = sym (answer_room image n op k _ false found refl within fits);
-      left = done_changed image n k new _ found.0 whole (slot_write image new k c.start-at.result c.start-at.ensures.is whole) op found long (c.put_bytes.ensures.name ∙ ap (take 33) part) (λ was is e. e) does;
+      left = done_changed image n k new _ found.0 done.2 done.3 op found (done.2 ∙ sym (length_slot image k found.0)) work.1 (λ was is e. e) (sym (ap Some work.0));
     }
