@@ -6,29 +6,18 @@ ghost use Rattle.halves.specs.Halves.{mixed, kept_content, KeptAs, KeptBelow, Mi
 use crate::kept::Kept;
 use image::{FILE_LENGTH, HEAD, SLOTS, file_length, put_length, start};
 
-/// The byte at a place of a slot's file, or zero past its end.
-fn byte_at(slot: &[u8], length: usize, place: usize) -> u8
-    requires { 37 + length ≤ count slot.now }
-    ensures { result ≡ (if nat_lt place length then slice_index slot.now (37 + place) else 0) }
-{
-    if place < length {
-        slot[HEAD + place]
-    } else {
-        0
-    }
-}
-
 /// The byte of the current file at even places, of the synced one at odd places.
 fn mixed_byte(current: &[u8], synced: &[u8], length: usize, other: usize, place: usize) -> u8
     requires current { 37 + length ≤ count current.now }
     requires synced { 37 + other ≤ count synced.now }
     ensures { result ≡ mixed_byte current.now synced.now length other place }
 {
-    if place % 2 == 0 {
-        byte_at(current, length, place)
+    let (slot, end) = if place % 2 == 0 {
+        (current, length)
     } else {
-        byte_at(synced, other, place)
-    }
+        (synced, other)
+    };
+    if place < end { slot[HEAD + place] } else { 0 }
 }
 
 /// Mixes the bytes of two files, whose lengths are told, into the first one's slot.

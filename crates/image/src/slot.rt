@@ -23,16 +23,19 @@ pub fn is_free(slot: &[u8]) -> bool
     slot.len() >= HEAD && slot[NAME_LENGTH] == 0
 }
 
+/// Whether a name has a lawful length.
+pub fn is_name(name: &[u8]) -> bool
+    ensures { result ≡ name_ok name.now }
+{
+    (1..=NAME_LIMIT).contains(&name.len())
+}
+
 /// Whether the slot has the file of that name.
 pub fn is_named(slot: &[u8], name: &[u8]) -> bool
     ensures { result ≡ named name.now slot.now }
 {
     let n = name.len();
-    n >= 1
-        && n <= NAME_LIMIT
-        && slot.len() >= HEAD
-        && slot[NAME_LENGTH] as usize == n
-        && slot[0..n] == name[..]
+    is_name(name) && slot.len() >= HEAD && slot[NAME_LENGTH] as usize == n && slot[0..n] == name[..]
 }
 
 /// How many bytes the file in the slot has. For the crates of this repository: it wants a slot with its head.

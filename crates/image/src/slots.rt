@@ -9,7 +9,7 @@ ghost use Rattle.image.specs.Stored.{Stored, PresentAt, ReadInto, Freed, SlotDon
 
 use crate::slot;
 use crate::slot::HEAD;
-use card::{Cause, FILE_LIMIT, NAME_LIMIT};
+use card::{Cause, FILE_LIMIT};
 
 /// The slots of an image.
 pub const SLOTS: usize = 16;
@@ -58,20 +58,13 @@ fn find_free(image: &[u8]) -> Option<usize>
     (0..SLOTS).find(|k| slot::is_free(slot_at(image, *k)))
 }
 
-/// Whether a name has a lawful length.
-fn is_name(name: &[u8]) -> bool
-    ensures { result ≡ name_ok name.now }
-{
-    name.len() >= 1 && name.len() <= NAME_LIMIT
-}
-
 /// The slot of a present file, or why there is none.
 pub fn present(image: &[u8], name: &[u8]) -> Result<usize, Cause>
     ensures { PresentAt name.now image.now result }
 {
     match find(image, name) {
         Some(k) => Ok(k),
-        None if is_name(name) => Err(Cause::Absent),
+        None if slot::is_name(name) => Err(Cause::Absent),
         None => Err(Cause::Range),
     }
 }
@@ -102,7 +95,7 @@ pub fn length(image: &mut [u8], name: &[u8]) -> Result<Option<u32>, Cause>
     ensures stored { Stored length_of name.now image.old result image.new }
     ensures told { IfOk result (λ told. told ≡ length_told (held image.old name.now)) }
 {
-    if !is_name(name) {
+    if !slot::is_name(name) {
         return Err(Cause::Range);
     }
     match find(image, name) {
@@ -129,7 +122,7 @@ pub fn read(image: &mut [u8], name: &[u8], place: u32, buffer: &mut [u8]) -> Res
 pub fn create(image: &mut [u8], name: &[u8]) -> Result<(), Cause>
     ensures { Stored creating name.now image.old result image.new }
 {
-    if !is_name(name) {
+    if !slot::is_name(name) {
         return Err(Cause::Range);
     }
     if find(image, name).is_some() {
