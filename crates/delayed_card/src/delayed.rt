@@ -55,6 +55,7 @@ impl DelayedCard<'_> {
     }
 
     /// Counts a call, and tells what is kept if power is to fail at it; refused while power is off.
+    // Tried with a closure for the whole call: a proof does not learn what it left in a read's buffer.
     fn begin(&mut self, call: CardCall) -> Result<Option<Kept>, CardFault>
         ensures powered { MatchResult result (λ lost. (self.old.on ≡ true) × (lost ≡ lost_now self.old.cut) × (self.new.on ≡ still_on lost)) (λ fault. (self.old.on ≡ false) × (self.new.on ≡ false) × (fault ≡ record { cause = Power; call = call; origin = self.old.origin })) }
         ensures counted { self.new.cut ≡ next_cut self.old.cut }

@@ -98,6 +98,7 @@ pub fn length(image: &mut [u8], name: &[u8]) -> Result<Option<u32>, Cause>
     if !slot::is_name(name) {
         return Err(Cause::Range);
     }
+    // Tried with map: what its closure asks of a slot's number is left unproved.
     match find(image, name) {
         Some(k) => Ok(Some(slot::file_length(slot_at(image, k)) as u32)),
         None => Ok(None),
