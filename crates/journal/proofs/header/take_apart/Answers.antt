@@ -5,6 +5,6 @@ use Rattle.journal.proofs.header.take_apart.Goals as goal
 pub returns : goal.returns
 returns c =
     record {
-      numbers = record { count = search rules; nonce = search rules; size = search rules; sector = search rules; page = search rules };
+      numbers = record { numbers = record { count = search rules; nonce = search rules; size = search rules }; sector = search rules; page = search rules };
       padding = take_rest c.args.bytes.now 28;
     }
