@@ -62,18 +62,22 @@ pub trait Card {
     fn power(&mut self)
         ensures { Switched meaning self.old self.new };
 
-    /// Whether power is on. It is never refused. Its contract also carries the two laws that every
-    /// card's meaning keeps: what a file holds now may remain, and of an absent file only absence.
+    /// Whether power is on. It is never refused.
     fn powered(&self) -> bool
-        ensures on { result ≡ meaning.on self.now }
-        ensures laws { Lawful meaning };
+        ensures { result ≡ meaning.on self.now };
+
+    /// The two laws that every card's meaning keeps: what a file holds now may remain, and of an absent
+    /// file only absence.
+    ghost lawful: { Lawful meaning };
 }
 
-/// What the meaning of any card lets a proof say about power failure: its contract is the law that
-/// what a file may be after a call could remain before it, or, of the call's own file, after its
-/// work; and small cases of the calls. It answers whether the card that it was shown has power.
+/// What the meaning of any card lets a proof say about power failure: its contract is the two laws of
+/// that meaning; the law that what a file may be after a call could remain before it, or, of the
+/// call's own file, after its work; and small cases of the calls. It answers whether the card that it
+/// was shown has power.
 pub fn crash_law<C: Card>(card: &C) -> bool
     ensures examples { Examples }
+    ensures lawful { Lawful C.Card.meaning }
     ensures law { CrashLaw C.Card.meaning }
     ensures powered { result ≡ C.Card.meaning.on card.now }
 {

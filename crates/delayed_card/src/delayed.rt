@@ -7,7 +7,8 @@ ghost use Rattle.card.specs.Calls.Op.{length_of, read as reading, create as crea
 ghost use Rattle.image.specs.Layout.{held};
 ghost use Rattle.image.specs.Stored.{Empty};
 ghost use Rattle.cut_calls.specs.Calls.{half};
-ghost use Rattle.delayed_card.specs.Delayed.{delayed, MayRemain, Delayed, ToldCut};
+ghost use Rattle.delayed_card.specs.Delayed.{delayed, Delayed, ToldCut};
+ghost use Rattle.std.proofs.Common.{rules};
 
 use crate::cut::{Cut, Untold, after_call, at_call, told};
 use card::{Card, CardCall, CardFault, Cause};
@@ -77,6 +78,8 @@ impl DelayedCard<'_> {
 
 impl<'a> Card for DelayedCard<'a> {
     ghost meaning = { delayed (λ c. c.on) (λ c. half c.current.bytes.now c.synced.bytes.now) (λ c. half c.synced.bytes.now c.current.bytes.now) (λ c. c.origin) };
+
+    ghost lawful = { Prim.search rules };
 
     fn length(&mut self, name: &[u8]) -> Result<Option<u32>, CardFault>
         ensures answered { Answered (delayed (λ c. c.on) (λ c. half c.current.bytes.now c.synced.bytes.now) (λ c. half c.synced.bytes.now c.current.bytes.now) (λ c. c.origin)) self.old name.now length_of result self.new }

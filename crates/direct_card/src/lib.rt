@@ -8,6 +8,7 @@ ghost use Rattle.card.specs.Calls.Op.{length_of, read as reading, create as crea
 ghost use Rattle.image.specs.Layout.{held};
 ghost use Rattle.image.specs.Stored.{Empty};
 ghost use Rattle.direct_card.specs.Direct.{direct, Direct};
+ghost use Rattle.std.proofs.Common.{rules};
 
 use card::{Card, CardCall, CardFault};
 use image::blame;
@@ -33,6 +34,8 @@ impl DirectCard<'_> {
 
 impl<'a> Card for DirectCard<'a> {
     ghost meaning = { direct (λ c. c.image.now) (λ c. c.origin) };
+
+    ghost lawful = { Prim.search rules };
 
     fn length(&mut self, name: &[u8]) -> Result<Option<u32>, CardFault>
         ensures answered { Answered (direct (λ c. c.image.now) (λ c. c.origin)) self.old name.now length_of result self.new }

@@ -110,6 +110,8 @@ impl<C: Card> TroubleLayer<C> {
 impl<C: Card> Card for TroubleLayer<C> {
     ghost meaning = { layered C.Card.meaning (λ l. l.below) (λ l. l.origin) };
 
+    ghost lawful = { record { kept = λ l n b e. C.lawful.kept l.below n b e; gone = λ l n b e h. C.lawful.gone l.below n b e h } };
+
     fn length(&mut self, name: &[u8]) -> Result<Option<u32>, CardFault>
         ensures answered { Answered (layered C.Card.meaning (λ l. l.below) (λ l. l.origin)) self.old name.now length_of result self.new }
         ensures told { ToldLength (C.Card.meaning.holds self.old.below name.now) result }

@@ -3,4 +3,4 @@ use Rattle.card.proofs.Cases.{examples}
 use Rattle.card.proofs.crash_law.Goals as goal
 
 pub returns : goal.returns
-returns g c = record { examples = examples; law = crash_law_lem c.powered.ensures.laws; powered = c.powered.ensures.on }
+returns g c = record { examples = examples; lawful = g.met.C.Card.lawful; law = crash_law_lem g.met.C.Card.lawful; powered = c.powered.ensures }

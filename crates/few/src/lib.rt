@@ -1,0 +1,87 @@
+// Up to so many values in fixed memory.
+#![tactic(auto)]
+
+ghost use Rattle.std.specs.Prelude.{◌≡◌, ℕ, ◌+◌, ◌<◌, ◌≤◌, List, [], ◌∷◌, ◌++◌, length as count, take, drop, ◌==◌, slice_set};
+
+use std::marker::Model;
+
+/// Up to `N` values in fixed memory, in the order in which they were put in.
+#[derive(Clone, Copy)]
+pub struct Few<T, const N: usize> {
+    rows: [T; N],
+    used: usize,
+}
+
+// Clauses see the values, and beside them the places that wait for one.
+impl<T, const N: usize> Model for Few<T, N> {
+    ghost use Rattle.std.specs.Prelude.{◌≡◌, ◌≤◌, ◌++◌, length, take, drop};
+    ghost use Rattle.std.proofs.Common.{arith, take-append-drop, length-take-le};
+    ghost use Rattle.few.specs.Items.{Few as Items};
+
+    ghost Value = { Items T };
+
+    ghost view = { λ f. record { items = take f.used f.rows; spare = drop f.used f.rows } };
+
+    ghost invariant = { λ f. (f.used ≤ N) × (length f.rows ≡ N) };
+
+    ghost inverse = { λ v. record { rows = v.items ++ v.spare; used = length v.items } };
+
+    ghost inverse_ok = { λ f h i. record {
+      rows = take-append-drop f.used f.rows i;
+      used = length-take-le f.used f.rows (omega (arith, h.0, h.1)) i;
+    } };
+}
+
+impl<T: Copy, const N: usize> Few<T, N> {
+    /// No value as yet. The places that wait for one have the blank.
+    pub fn new(blank: T) -> Few<T, N>
+        ensures { result.items ≡ [] }
+    {
+        Few {
+            rows: [blank; N],
+            used: 0,
+        }
+    }
+
+    /// The values.
+    pub fn as_slice(&self) -> &[T]
+        ensures is { result.now ≡ self.now.items }
+        ensures few { count result.now ≤ N }
+    {
+        let all = &self.rows[..];
+        &all[0..self.used]
+    }
+
+    /// How many values there are.
+    pub fn len(&self) -> usize
+        ensures is { result ≡ count self.now.items }
+        ensures few { result ≤ N }
+    {
+        self.as_slice().len()
+    }
+
+    /// Whether there is no room for one more.
+    pub fn is_full(&self) -> bool
+        ensures { result ≡ (count self.now.items == N) }
+    {
+        self.used == N
+    }
+
+    /// Puts a value at the end.
+    pub fn push(&mut self, value: T)
+        requires { count self.old.items < N }
+        ensures { self.new.items ≡ self.old.items ++ value ∷ [] }
+    {
+        self.rows[self.used] = value;
+        self.used += 1;
+    }
+
+    /// Puts a value in the place of another.
+    pub fn set(&mut self, i: usize, value: T)
+        requires { i < count self.old.items }
+        ensures { self.new.items ≡ slice_set self.old.items i value }
+    {
+        let all = &mut self.rows[..];
+        all[i] = value;
+    }
+}
