@@ -1,5 +1,5 @@
 -- The sum of bytes is small.
-use Rattle.std.proofs.Common.{ℕ, suc, ◌*◌, ◌≤◌, [], ◌∷◌, length, arith}
+use Rattle.std.proofs.Common.{suc, ◌*◌, ◌≤◌, [], ◌∷◌, length, arith}
 use Rattle.std.specs.List.{sum}
 use Rattle.std.proofs.lemmas.List.Sums.{sum_by-cons}
 use Rattle.card.specs.Meaning.{Bytes}

@@ -28,6 +28,7 @@ pub struct Front<'a> {
 }
 
 /// Whether the journal is spent: shorter than a header, without the magic, or with count 0.
+#[tactic(auto, using(std::proofs::lemmas::Bool::Decides::nat_tests), unfolding(crate::specs::Judged::spent))]
 pub fn is_spent(bytes: &[u8]) -> bool
     ensures { result ≡ spent bytes.now }
 {

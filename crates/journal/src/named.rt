@@ -13,6 +13,7 @@ pub fn byte_sum(name: &[u8]) -> u32
 }
 
 /// Whether the bytes are a super-journal record.
+#[tactic(auto, using(std::proofs::lemmas::Bool::Decides::nat_tests), unfolding(crate::specs::Fronts::super_right))]
 pub fn super_holds(bytes: &[u8]) -> bool
     requires long { 21 ≤ count_bytes bytes.now }
     requires short { count_bytes bytes.now ≤ 52 }

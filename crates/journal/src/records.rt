@@ -21,6 +21,7 @@ fn follows(bytes: &[u8], index: u32) -> bool
 }
 
 /// Whether the record is of a page that follows, within the size, with its checksum.
+#[tactic(auto, using(std::proofs::lemmas::Bool::Decides::nat_tests), unfolding(crate::specs::Judged::record_right))]
 fn record_holds(bytes: &[u8], header: Header, index: u32) -> bool
     requires header { Reads bytes.now header }
     requires inside { 512 + 520 * (index + 1) ≤ count_bytes bytes.now }

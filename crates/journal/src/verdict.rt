@@ -14,7 +14,8 @@ pub struct Span {
     pub length: usize,
 }
 
-/// The parts of a sound journal; its page records are read in place.
+/// The parts of a sound journal; its page records are read in place. The numbers stand here and not as a header
+/// in a field: callers name each, and `sound.header.count` would be no plainer.
 #[derive(Clone, Copy, PartialEq, Eq, Debug)]
 pub struct Sound {
     pub count: u32,

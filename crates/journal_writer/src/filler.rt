@@ -69,6 +69,8 @@ fn seal_records(buffer: &mut [u8], nonce: u32, pages: &[u32])
 }
 
 /// Fills the buffer with a journal of count 0 around the pages that lie in it, and tells the journal's length.
+///
+/// Not by `put` of a part: how long the journal is can be told only of lawful numbers.
 pub fn fill_journal(
     buffer: &mut [u8],
     nonce: u32,

@@ -44,6 +44,8 @@ fn fill_names(buffer: &mut [u8], names: &[&[u8]])
 }
 
 /// Fills the buffer with the super-journal of the names, and tells its length.
+///
+/// Not as the writer of journals puts a part: how long it is can be told only of lawful names.
 pub fn put_names(buffer: &mut [u8], names: &[&[u8]]) -> Result<usize, Refusal>
     ensures { Named buffer.old (texts names.now) result buffer.new }
 {

@@ -1,4 +1,4 @@
-use Rattle.std.proofs.Common.{◌≡◌, ◌↔◌, ◌≤◌, ltb, get_or, rules}
+use Rattle.std.proofs.Common.{◌↔◌, ◌≤◌, ltb, get_or, rules}
 use Rattle.std.specs.List.{EachIndex}
 use Rattle.std.specs.Bool.{IsTrue}
 use Rattle.std.proofs.lemmas.List.Sorted.{answers_always}

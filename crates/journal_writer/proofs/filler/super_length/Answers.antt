@@ -1,4 +1,4 @@
-use Rattle.std.proofs.Common.{◌≡◌, ℕ, ◌+◌, length, Some, None, Option, sym, ◌∙◌, arith, rules, Bor}
+use Rattle.std.proofs.Common.{◌≡◌, ℕ, ◌+◌, length, Some, None, Option, ◌∙◌, arith, rules, Bor}
 use Rattle.std.specs.Option.{MatchOption}
 use Rattle.card.specs.Meaning.{Bytes}
 use Rattle.journal.specs.Format.{super_bytes}
