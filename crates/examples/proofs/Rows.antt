@@ -2,7 +2,7 @@
 use Rattle.std.proofs.Common.{◌≡◌, ℕ, ◌+◌, ◌<◌, false, not, ◌&&◌, eqb, ltb, leb, [], ◌∷◌, length, get_or, Some, None, refl, ◌∙◌, arith}
 use Rattle.std.proofs.lemmas.Bool.{cond-true, cond-false, ne_eqb, lt-ltb, le-leb, and_from, and_left, and_right}
 use Rattle.card.specs.Meaning.{Bytes}
-use Rattle.journal.specs.Format.{LawfulJournal, Ascending, encode, header, record_bytes, records_bytes, super_bytes, total}
+use Rattle.journal.specs.Format.{LawfulJournal, Ascending, encode, header, record_bytes, records_bytes, super_bytes}
 use Rattle.journal.specs.Judged.{spent, readable, header_right, length_right}
 use Rattle.super_journal.specs.Super.{super_journal_bytes}
 use Rattle.journal.specs.Laws.{Quiet}
@@ -63,7 +63,7 @@ past m d there size =
     ∙ cond-false (page_allowed m d 4097) _ _ (and_right (leb 1 4097) (leb 4097 (get_or m.sizes d 0 + 1) && leb 4097 4096) (and_right (leb 4097 (get_or m.sizes d 0 + 1)) (leb 4097 4096) refl))
 
 pub table : Table
-unfolding super_bytes total
+unfolding super_bytes
 table =
     record {
       sum = refl;

@@ -5,15 +5,16 @@ use Rattle.std.specs.Str.{bytes_eq}
 use Rattle.std.proofs.lemmas.List.{take_at, drop_at, drop-drop}
 use Rattle.std.proofs.lemmas.Slice.Eq.{bytes_eq-Decides}
 use Rattle.std.proofs.lemmas.Bool.{and_from, or_from, or_left, or_right, lt-ltb, le-ltb, le-leb, eq-eqb, ne_eqb}
+use Rattle.std.specs.List.{sum}
 use Rattle.card.specs.Meaning.{Bytes, Name}
 use Rattle.card.specs.Calls.{part}
 use Rattle.card.specs.Numbers.{number_at, number_bytes}
 use Rattle.card.proofs.Numbers.{number_of_bytes}
-use Rattle.journal.specs.Format.{PageRecord, Journal, record_of, LawfulJournal, LawfulName, Octets, Ascending, Starts, header, record_bytes, records_bytes, super_bytes, encode, full, magic, checksum, total}
+use Rattle.journal.specs.Format.{PageRecord, Journal, record_of, LawfulJournal, LawfulName, Octets, Ascending, Starts, header, record_bytes, records_bytes, super_bytes, encode, full, magic, checksum}
 use Rattle.journal.specs.Judged.{spent, header_right, length_right, record_right, follows, record_place, page_of, page_bytes, count_of, nonce_of, size_of}
 use Rattle.journal.specs.Fronts.{super_right}
 use Rattle.journal.proofs.Numbers.{number_drop}
-use Rattle.journal.proofs.Sums.{total_small}
+use Rattle.journal.proofs.Sums.{sum_small}
 
 -- how long the pieces are
 pub length_header : (n k size : ℕ) → length (header n k size) ≡ 512
@@ -228,10 +229,10 @@ module _ (j : Journal) (ok : LawfulJournal j) where
 pub super_full : (n : Name) → length n ≤ 32 → Octets n → super_right (super_bytes (Some n)) ≡ true
 unfolding super_right super_bytes
 super_full n short fit =
-    subst (λ (m : ℕ). (eqb (number_at s 0) 2097153 && (eqb (number_at s (4 + m)) m && (eqb (number_at s (8 + m)) (total (part s 4 m)) && bytes_eq magic (part s (12 + m) 8)))) ≡ true) (sym long)
+    subst (λ (m : ℕ). (eqb (number_at s 0) 2097153 && (eqb (number_at s (4 + m)) m && (eqb (number_at s (8 + m)) (sum (part s 4 m)) && bytes_eq magic (part s (12 + m) 8)))) ≡ true) (sym long)
     (and_from _ _ page
     (and_from _ _ (eq-eqb (number_at s (4 + length n)) (length n) length_is)
-    (and_from _ _ (eq-eqb (number_at s (8 + length n)) (total (part s 4 (length n))) (sum_is ∙ sym (ap total name_is))) ((bytes_eq-Decides magic (part s (12 + length n) 8)).1 (sym magic_is)))))
+    (and_from _ _ (eq-eqb (number_at s (8 + length n)) (sum (part s 4 (length n))) (sum_is ∙ sym (ap sum name_is))) ((bytes_eq-Decides magic (part s (12 + length n) 8)).1 (sym magic_is)))))
   where
     s : Bytes
     s = super_bytes (Some n)
@@ -240,7 +241,7 @@ super_full n short fit =
     long = omega (arith, length_super n)
 
     rest : Bytes
-    rest = number_bytes (length n) ++ (number_bytes (total n) ++ magic)
+    rest = number_bytes (length n) ++ (number_bytes (sum n) ++ magic)
 
     page : eqb (number_at s 0) 2097153 ≡ true
     page = refl
@@ -262,8 +263,8 @@ super_full n short fit =
     length_is : number_at s (4 + length n) ≡ length n
     length_is = at (4 + length n) 0 (omega arith) ∙ number_of_bytes (length n) (omega arith)
 
-    sum_is : number_at s (8 + length n) ≡ total n
-    sum_is = at (8 + length n) 4 (omega arith) ∙ number_of_bytes (total n) (omega (arith, total_small n fit))
+    sum_is : number_at s (8 + length n) ≡ sum n
+    sum_is = at (8 + length n) 4 (omega arith) ∙ number_of_bytes (sum n) (omega (arith, sum_small n fit))
 
     name_is : part s 4 (length n) ≡ n
     name_is = ap (take (length n)) past ∙ take_at n rest (length n) refl

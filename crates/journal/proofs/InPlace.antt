@@ -2,14 +2,17 @@
 use Rattle.std.proofs.Common.{◌≡◌, ℕ, ◌+◌, ◌<◌, true, ◌++◌, length, take, drop, Some, None, Option, sym, refl, ap, ◌∙◌, ap₂, arith}
 use Rattle.std.proofs.lemmas.List.{take_at, drop-drop}
 use Rattle.std.proofs.lemmas.Bool.{and_from, lt-ltb, le-leb}
+use Rattle.std.specs.List.{sum}
 use Rattle.card.specs.Meaning.{Bytes, Name}
 use Rattle.card.specs.Calls.{part}
-use Rattle.card.specs.Numbers.{number_bytes}
-use Rattle.journal.specs.Format.{Journal, record_of, super_bytes, magic, total}
+use Rattle.card.specs.Numbers.{number_at, number_bytes}
+use Rattle.journal.specs.Format.{Journal, record_of, super_bytes, magic}
 use Rattle.journal.specs.Judged.{name_span, record_place, page_of, page_bytes}
 use Rattle.journal.specs.Read.{Of, has_record, within}
 use Rattle.journal.specs.declared.verdict.Sound.{Sound as SoundParts}
 use Rattle.journal.specs.declared.verdict.Span.{Span}
+use Rattle.journal.proofs.Numbers.{number_part}
+use Rattle.journal.proofs.Pieces.{part_part}
 use Rattle.journal.proofs.Encoded.{length_encode, length_super, page_at, bytes_at, end_full}
 
 module _ (b : Bytes) (s : SoundParts) (j : Journal) (of : Of b s j) where
@@ -20,11 +23,12 @@ module _ (b : Bytes) (s : SoundParts) (j : Journal) (of : Of b s j) where
     pub has : has_record s b k ≡ true
     has = and_from _ _ (lt-ltb k s.count (omega (arith, of.parts.count))) (le-leb (record_place (k + 1)) (length b) (omega (arith, long)))
 
-    pub number_told : page_of b k ≡ (record_of j.records k).page
-    number_told = ap (λ (x : Bytes). page_of x k) of.bytes ∙ page_at j of.lawful k lt
+    module _ (r : Bytes) (is : r ≡ part b (record_place k) 520) where
+      pub number_told : number_at r 0 ≡ (record_of j.records k).page
+      number_told = ap (λ (x : Bytes). number_at x 0) is ∙ number_part b (record_place k) 520 (omega arith) ∙ ap (λ (x : Bytes). page_of x k) of.bytes ∙ page_at j of.lawful k lt
 
-    pub page_told : page_bytes b k ≡ (record_of j.records k).bytes
-    page_told = ap (λ (x : Bytes). page_bytes x k) of.bytes ∙ bytes_at j of.lawful k lt
+      pub page_told : part r 4 512 ≡ (record_of j.records k).bytes
+      page_told = ap (λ (x : Bytes). part x 4 512) is ∙ part_part b (record_place k) 4 516 512 (omega arith) ∙ ap (λ (x : Bytes). page_bytes x k) of.bytes ∙ bytes_at j of.lawful k lt
 
   pub no_name : s.name ≡ None → None ≡ j.super
   no_name e = by j.super (sym e ∙ of.parts.name)
@@ -59,4 +63,4 @@ module _ (b : Bytes) (s : SoundParts) (j : Journal) (of : Of b s j) where
           name : part b span.place span.length ≡ n
           name =
               ap₂ (λ (p c : ℕ). take c (drop p b)) place count ∙ ap (take (length n)) (sym (drop-drop 4 (record_place (length j.records)) b) ∙ ap (drop 4) tail)
-              ∙ take_at n (number_bytes (length n) ++ (number_bytes (total n) ++ magic)) (length n) refl
+              ∙ take_at n (number_bytes (length n) ++ (number_bytes (sum n) ++ magic)) (length n) refl

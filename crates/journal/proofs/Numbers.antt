@@ -17,6 +17,10 @@ number_drop b n i =
     at : (k : ℕ) → get_or (drop n b) (i + k) 0 ≡ get_or b (n + i + k) 0
     at k = get_or-drop n b (i + k) 0 ∙ ap (λ (m : ℕ). get_or b m 0) (omega arith)
 
+-- the first number of a part
+pub number_part : (b : Bytes) (i n : ℕ) → 4 ≤ n → number_at (part b i n) 0 ≡ number_at b i
+number_part b i n h = number_take (drop i b) n 0 h ∙ number_drop b i 0 ∙ ap (number_at b) (omega arith)
+
 -- bytes have the bytes of the number that they are
 pub bytes_of_number : (a b c d : ℕ) → a < 256 → b < 256 → c < 256 → d < 256 → number_bytes (a * 16777216 + b * 65536 + c * 256 + d) ≡ a ∷ b ∷ c ∷ d ∷ []
 bytes_of_number a b c d ha hb hc hd = λ i. one i ∷ two i ∷ three i ∷ four i ∷ []

@@ -2,7 +2,7 @@
 use Rattle.std.proofs.Common.{◌≡◌, ℕ, ◌+◌, ◌<◌, ◌≤◌, ◌++◌, length, get_or, take, drop, sym, ap, ◌∙◌, ap₂, append_assoc, arith, length-append, length-drop, length-take, take-add}
 use native.Mathlib.Decide.{dec_lt}
 use borrow.Rule.Slice.PartMut.{put_mid}
-use Rattle.std.proofs.lemmas.List.{drop-drop, take_all, take_at, drop_at, get_or-take, get_or-drop, get_or_past}
+use Rattle.std.proofs.lemmas.List.{drop-drop, drop-take, take-take, take_all, take_at, drop_at, get_or-take, get_or-drop, get_or_past}
 use Rattle.card.specs.Meaning.{Bytes}
 use Rattle.card.specs.Calls.{part, overwrite}
 use Rattle.journal.specs.Format.{Octets}
@@ -14,6 +14,10 @@ module _ (b : Bytes) where
   -- the same, where the places are told in other words
   pub part_cut : (i m n j s : ℕ) → s ≡ m + n → i + m ≡ j → part b i s ≡ part b i m ++ part b j n
   part_cut i m n j s e f = ap (part b i) e ∙ part_split i m n ∙ ap (λ (k : ℕ). part b i m ++ part b k n) f
+
+  -- a part of a part
+  pub part_part : (i j k n : ℕ) → n ≤ k → part (part b i (j + k)) j n ≡ part b (i + j) n
+  part_part i j k n h = ap (take n) (drop-take j k (drop i b)) ∙ take-take n k (drop j (drop i b)) h ∙ ap (take n) (drop-drop j i b)
 
   pub part_end : (i n : ℕ) → length b ≤ i + n → part b i n ≡ drop i b
   part_end i n h = take_all n (drop i b) (omega (arith, length-drop i b))

@@ -1,10 +1,11 @@
 -- The bytes tell the journal, and no torn count makes another one of them.
 use Rattle.std.proofs.Common.{◌≡◌, ℕ, ◌^◌, ◌<◌, ◌≤◌, List, [], ◌∷◌, ◌++◌, length, take, drop, Some, None, Option, sym, refl, ap, ◌∙◌, subst, append_assoc, arith}
 use Rattle.std.proofs.lemmas.List.{take_at, drop_at}
+use Rattle.std.specs.List.{sum}
 use Rattle.card.specs.Meaning.{Bytes, Name}
 use Rattle.card.specs.Numbers.{number_at, number_bytes}
 use Rattle.card.proofs.Numbers.{number_of_bytes}
-use Rattle.journal.specs.Format.{PageRecord, Journal, LawfulJournal, Ascending, header, record_bytes, records_bytes, super_bytes, encode, full, magic, checksum, total}
+use Rattle.journal.specs.Format.{PageRecord, Journal, LawfulJournal, Ascending, header, record_bytes, records_bytes, super_bytes, encode, full, magic, checksum}
 use Rattle.journal.proofs.Encoded.{length_header, length_super, count_full, nonce_full, size_full}
 
 take_same : (n : ℕ) (a b x y : Bytes) → length a ≡ n → length b ≡ n → a ++ x ≡ b ++ y → (a ≡ b) × (x ≡ y)
@@ -58,7 +59,7 @@ super_same None (Some n) e = absurd (omega (arith, ap length e))
 super_same (Some n) None e = absurd (omega (arith, ap length e))
 super_same (Some n) (Some k) e =
     ap (λ (z : Name). Some z)
-    (take_same (length n) n k (number_bytes (length n) ++ (number_bytes (total n) ++ magic)) (number_bytes (length k) ++ (number_bytes (total k) ++ magic)) refl (sym lengths) (ap (drop 4) e)).0
+    (take_same (length n) n k (number_bytes (length n) ++ (number_bytes (sum n) ++ magic)) (number_bytes (length k) ++ (number_bytes (sum k) ++ magic)) refl (sym lengths) (ap (drop 4) e)).0
   where
     lengths : length n ≡ length k
     lengths = omega (arith, length_super n, length_super k, ap length e)

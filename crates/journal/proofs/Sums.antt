@@ -1,14 +1,10 @@
--- The sum of bytes: by one more byte, and that it is small.
-use Rattle.std.proofs.Common.{◌≡◌, ℕ, suc, ◌+◌, ◌*◌, ◌≤◌, [], ◌∷◌, ◌++◌, length, arith}
+-- The sum of bytes is small.
+use Rattle.std.proofs.Common.{suc, ◌*◌, ◌≤◌, [], ◌∷◌, length, arith}
+use Rattle.std.specs.List.{sum}
+use Rattle.std.proofs.lemmas.List.Sums.{sum_by-cons}
 use Rattle.card.specs.Meaning.{Bytes}
-use Rattle.journal.specs.Format.{total, Octets}
+use Rattle.journal.specs.Format.{Octets}
 
-pub total_push : (xs : Bytes) (y : ℕ) → total (xs ++ (y ∷ [])) ≡ total xs + y
-unfolding total
-total_push [] y = omega arith
-total_push (x ∷ xs) y = omega (arith, total_push xs y)
-
-pub total_small : (xs : Bytes) → Octets xs → total xs ≤ 255 * length xs
-unfolding total
-total_small [] fit = omega arith
-total_small (x ∷ xs) fit = omega (arith, fit 0, total_small xs (λ k. fit (suc k)))
+pub sum_small : (xs : Bytes) → Octets xs → sum xs ≤ 255 * length xs
+sum_small [] fit = omega arith
+sum_small (x ∷ xs) fit = omega (arith, fit 0, sum_by-cons (λ n. n) x xs, sum_small xs (λ k. fit (suc k)))

@@ -4,10 +4,11 @@ use Rattle.std.specs.Str.{bytes_eq}
 use Rattle.std.proofs.lemmas.List.{take-append-drop, drop-drop}
 use Rattle.std.proofs.lemmas.Slice.Eq.{bytes_eq-Decides}
 use Rattle.std.proofs.lemmas.Bool.{and_parts, or_parts, not-false, ltb-true, ltb-false, leb-true, eqb-true, eqb-false}
+use Rattle.std.specs.List.{sum}
 use Rattle.card.specs.Meaning.{Bytes, Name}
 use Rattle.card.specs.Calls.{part}
 use Rattle.card.specs.Numbers.{number_at, number_bytes}
-use Rattle.journal.specs.Format.{PageRecord, Journal, LawfulJournal, LawfulName, Octets, Ascending, Starts, header, record_bytes, records_bytes, super_bytes, encode, full, magic, checksum, total}
+use Rattle.journal.specs.Format.{PageRecord, Journal, LawfulJournal, LawfulName, Octets, Ascending, Starts, header, record_bytes, records_bytes, super_bytes, encode, full, magic, checksum}
 use Rattle.journal.specs.Judged.{spent, header_right, record_right, record_place, page_of, page_bytes, count_of, nonce_of, size_of}
 use Rattle.journal.specs.Fronts.{super_right}
 use Rattle.journal.proofs.Numbers.{part_number}
@@ -190,11 +191,11 @@ super_taken s fit long short r =
     name : Bytes
     name = part s 4 n
 
-    r₀ : (eqb (number_at s 0) 2097153 ≡ true) × ((eqb (number_at s (4 + n)) n && (eqb (number_at s (8 + n)) (total name) && bytes_eq magic (part s (12 + n) 8))) ≡ true)
+    r₀ : (eqb (number_at s 0) 2097153 ≡ true) × ((eqb (number_at s (4 + n)) n && (eqb (number_at s (8 + n)) (sum name) && bytes_eq magic (part s (12 + n) 8))) ≡ true)
     r₀ = and_parts _ _ r
 
-    r₁ : (eqb (number_at s (4 + n)) n ≡ true) × ((eqb (number_at s (8 + n)) (total name) && bytes_eq magic (part s (12 + n) 8)) ≡ true)
+    r₁ : (eqb (number_at s (4 + n)) n ≡ true) × ((eqb (number_at s (8 + n)) (sum name) && bytes_eq magic (part s (12 + n) 8)) ≡ true)
     r₁ = and_parts _ _ r₀.1
 
-    r₂ : (eqb (number_at s (8 + n)) (total name) ≡ true) × (bytes_eq magic (part s (12 + n) 8) ≡ true)
+    r₂ : (eqb (number_at s (8 + n)) (sum name) ≡ true) × (bytes_eq magic (part s (12 + n) 8) ≡ true)
     r₂ = and_parts _ _ r₁.1

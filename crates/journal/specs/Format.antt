@@ -1,5 +1,5 @@
 -- The bytes of a rollback journal and of a super-journal. All numbers are four bytes, the highest first.
-use Rattle.std.specs.Prelude.{◌≡◌, ℕ, ◌+◌, ◌%◌, ◌^◌, ◌<◌, ◌≤◌, List, [], ◌∷◌, ◌++◌, length, replicate, Some, None, Option, slice_index, slice_index_or}
+use Rattle.std.specs.Prelude.{◌≡◌, ℕ, ◌+◌, ◌%◌, ◌^◌, ◌<◌, ◌≤◌, List, [], ◌∷◌, ◌++◌, length, sum, replicate, Some, None, Option, slice_index, slice_index_or}
 use Rattle.card.specs.Meaning.{Bytes, Name}
 use Rattle.card.specs.Calls.{name_limit}
 use Rattle.card.specs.Numbers.{number_bytes}
@@ -62,14 +62,9 @@ unfoldable pub records_bytes : ℕ → List PageRecord → Bytes
 records_bytes nonce [] = []
 records_bytes nonce (r ∷ rs) = record_bytes nonce r ++ records_bytes nonce rs
 
--- the sum of bytes
-unfoldable pub total : Bytes → ℕ
-total [] = 0
-total (b ∷ bs) = b + total bs
-
 unfoldable pub super_bytes : Option Name → Bytes
 super_bytes None = []
-super_bytes (Some n) = number_bytes super_page ++ (n ++ (number_bytes (length n) ++ (number_bytes (total n) ++ magic)))
+super_bytes (Some n) = number_bytes super_page ++ (n ++ (number_bytes (length n) ++ (number_bytes (sum n) ++ magic)))
 
 -- a journal as it is written, with the count given
 unfoldable pub encode : ℕ → Journal → Bytes

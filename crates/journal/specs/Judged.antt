@@ -37,10 +37,12 @@ header_right b =
 abbrev pub record_place : ℕ → ℕ
 record_place k = sector_size + record_size * k
 
--- nothing past the page records, or as much as a super-journal record can be
+-- nothing past so many page records, or as much as a super-journal record can be
+abbrev pub length_fits : ℕ → ℕ → Bool
+length_fits count size = (size == record_place count) || (nat_le (record_place count + 21) size && nat_le size (record_place count + 52))
+
 unfoldable pub length_right : Bytes → Bool
-length_right b =
-    (length b == record_place (count_of b)) || (nat_le (record_place (count_of b) + 21) (length b) && nat_le (length b) (record_place (count_of b) + 52))
+length_right b = length_fits (count_of b) (length b)
 
 abbrev pub page_of : Bytes → ℕ → ℕ
 page_of b k = number_at b (record_place k)

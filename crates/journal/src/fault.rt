@@ -3,7 +3,7 @@ ghost use Rattle.std.specs.Prelude.{◌≡◌};
 
 use card::CardFault;
 
-/// A refused call of the card, whole, and the page record at fault, from 1; 0 for none.
+/// A refused call of the card, whole, and the page record at fault, from 1; 0 for none, a rule of the project.
 #[derive(Clone, Copy, PartialEq, Eq, Debug)]
 pub struct JournalFault {
     pub card: CardFault,

@@ -2,12 +2,13 @@
 ghost use Rattle.std.specs.Prelude.{◌≡◌, ℕ, ◌+◌, ◌*◌, ◌<◌, ◌≤◌, true, false, ◌&&◌, ◌||◌, length as count_bytes, drop, replicate, MatchOption, ◌==◌, nat_le};
 ghost use Rattle.std.specs.Str.{bytes_eq};
 ghost use Rattle.card.specs.Numbers.{number_at};
-ghost use Rattle.journal.specs.Judged.{spent, header_right, length_right};
+ghost use Rattle.journal.specs.Judged.{spent, header_right, length_fits};
 ghost use Rattle.journal.specs.Fronts.{Reads, Apart, front_right};
 
 use crate::layout::{
-    PAGE, PAGE_LIMIT, RECORD_LIMIT, SECTOR, has_magic, is_blank, number, record_place,
+    PAGE, PAGE_LIMIT, RECORD_LIMIT, SECTOR, SUPER_EXTRA, has_magic, is_blank, number, record_place,
 };
+use card::NAME_LIMIT;
 
 /// The numbers of a right header that journals differ in.
 #[derive(Clone, Copy)]
@@ -20,25 +21,24 @@ pub struct Header {
 /// A header sector taken apart, past its magic.
 #[derive(Drop)]
 pub struct Front<'a> {
-    pub count: u32,
-    pub nonce: u32,
-    pub size: u32,
+    pub header: Header,
     pub sector: u32,
     pub page: u32,
     pub padding: &'a [u8],
 }
 
 /// Whether the journal is spent: shorter than a header, without the magic, or with count 0.
+#[tactic(auto, using(std::proofs::lemmas::Bool::Decides::nat_tests), unfolding(crate::specs::Judged::spent))]
 pub fn is_spent(bytes: &[u8]) -> bool
     ensures { result ≡ spent bytes.now }
 {
     bytes.len() < SECTOR || !has_magic(bytes) || number(bytes, 8) == 0
 }
 
-/// The parts of a header sector past its magic.
+/// The parts of a header sector past its magic. A slice pattern, with the rest as padding: the project asks for that form.
 fn take_apart(bytes: &[u8]) -> Front<'_>
     requires { 28 ≤ count_bytes bytes.now }
-    ensures numbers { Apart bytes.now result.count result.nonce result.size result.sector result.page }
+    ensures numbers { Apart bytes.now result.header result.sector result.page }
     ensures padding { result.padding.now ≡ drop 28 bytes.now }
 {
     let [
@@ -76,9 +76,11 @@ fn take_apart(bytes: &[u8]) -> Front<'_>
         unreachable()
     };
     Front {
-        count: u32::from_be_bytes([*c0, *c1, *c2, *c3]),
-        nonce: u32::from_be_bytes([*n0, *n1, *n2, *n3]),
-        size: u32::from_be_bytes([*z0, *z1, *z2, *z3]),
+        header: Header {
+            count: u32::from_be_bytes([*c0, *c1, *c2, *c3]),
+            nonce: u32::from_be_bytes([*n0, *n1, *n2, *n3]),
+            size: u32::from_be_bytes([*z0, *z1, *z2, *z3]),
+        },
         sector: u32::from_be_bytes([*t0, *t1, *t2, *t3]),
         page: u32::from_be_bytes([*p0, *p1, *p2, *p3]),
         padding,
@@ -88,11 +90,10 @@ fn take_apart(bytes: &[u8]) -> Front<'_>
 impl Front<'_> {
     /// Whether the numbers are within the limits and the padding is zero.
     fn holds(&self) -> bool
-        ensures { result ≡ front_right self.now.count self.now.size self.now.sector self.now.page self.now.padding.now }
+        ensures { result ≡ front_right self.now.header.count self.now.header.size self.now.sector self.now.page self.now.padding.now }
     {
-        self.count <= RECORD_LIMIT
-            && self.size >= 1
-            && self.size <= PAGE_LIMIT
+        self.header.count <= RECORD_LIMIT
+            && (1..=PAGE_LIMIT).contains(&self.header.size)
             && self.sector as usize == SECTOR
             && self.page as usize == PAGE
             && is_blank(self.padding)
@@ -104,21 +105,14 @@ pub fn read_header(bytes: &[u8]) -> Option<Header>
     requires { 512 ≤ count_bytes bytes.now }
     ensures { MatchOption result (header_right bytes.now ≡ false) (λ h. (header_right bytes.now ≡ true) × Reads bytes.now h) }
 {
-    let front = take_apart(&bytes[0..SECTOR]);
-    if !front.holds() {
-        return None;
-    }
-    Some(Header {
-        count: front.count,
-        nonce: front.nonce,
-        size: front.size,
-    })
+    let front = take_apart(&bytes[..SECTOR]);
+    front.holds().then_some(front.header)
 }
 
 /// Whether nothing is past the records, or as much as a super-journal record can be.
 pub fn length_holds(length: usize, count: u32) -> bool
-    ensures { result ≡ (length == 512 + 520 * count || (nat_le (512 + 520 * count + 21) length && nat_le length (512 + 520 * count + 52))) }
+    ensures { result ≡ length_fits count length }
 {
     let end = record_place(count);
-    length == end || (length >= end + 21 && length <= end + 52)
+    length == end || (end + SUPER_EXTRA + 1..=end + SUPER_EXTRA + NAME_LIMIT).contains(&length)
 }

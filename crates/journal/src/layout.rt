@@ -36,12 +36,7 @@ pub fn number(bytes: &[u8], place: usize) -> u32
     requires { place + 4 ≤ count bytes.now }
     ensures { result ≡ number_at bytes.now place }
 {
-    u32::from_be_bytes([
-        bytes[place],
-        bytes[place + 1],
-        bytes[place + 2],
-        bytes[place + 3],
-    ])
+    u32::from_be_bytes(*bytes[place..].first_chunk().unwrap())
 }
 
 /// The checksum of a page under a nonce. For the crates of this repository: it wants a whole page.
@@ -70,5 +65,5 @@ pub fn has_magic(bytes: &[u8]) -> bool
 pub fn is_blank(padding: &[u8]) -> bool
     ensures { result ≡ bytes_eq padding.now (replicate 484 0) }
 {
-    padding == &BLANK[28..SECTOR]
+    padding == &BLANK[28..]
 }

@@ -21,6 +21,7 @@ fn follows(bytes: &[u8], index: u32) -> bool
 }
 
 /// Whether the record is of a page that follows, within the size, with its checksum.
+#[tactic(auto, using(std::proofs::lemmas::Bool::Decides::nat_tests), unfolding(crate::specs::Judged::record_right))]
 fn record_holds(bytes: &[u8], header: Header, index: u32) -> bool
     requires header { Reads bytes.now header }
     requires inside { 512 + 520 * (index + 1) ≤ count_bytes bytes.now }
@@ -33,16 +34,11 @@ fn record_holds(bytes: &[u8], header: Header, index: u32) -> bool
         && number(bytes, place + 516) == sum
 }
 
-/// The first wrong page record, numbered from 1, or 0 if all are right.
-pub fn first_wrong(bytes: &[u8], header: Header) -> u32
+/// The first wrong page record, by its index from 0; none if all are right.
+pub fn first_wrong(bytes: &[u8], header: Header) -> Option<u32>
     requires header { Reads bytes.now header }
     requires inside { 512 + 520 * header.count ≤ count_bytes bytes.now }
     ensures { FirstWrong bytes.now header.count result }
 {
-    for index in 0..header.count {
-        if !record_holds(bytes, header, index) {
-            return index + 1;
-        }
-    }
-    0
+    (0..header.count).find(|index| !record_holds(bytes, header, *index))
 }

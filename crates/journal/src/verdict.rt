@@ -14,7 +14,8 @@ pub struct Span {
     pub length: usize,
 }
 
-/// The parts of a sound journal; its page records are read in place.
+/// The parts of a sound journal; its page records are read in place. The numbers stand here and not as a header
+/// in a field: callers name each, and `sound.header.count` would be no plainer.
 #[derive(Clone, Copy, PartialEq, Eq, Debug)]
 pub struct Sound {
     pub count: u32,
@@ -25,6 +26,8 @@ pub struct Sound {
 }
 
 /// What the bytes of a journal are: spent, damaged at a page record (from 1; 0 for no such record), or sound.
+///
+/// The record is a number and no Option: it is told as it stands, and 0 for no record is a rule of the project.
 #[derive(Clone, Copy, PartialEq, Eq, Debug)]
 pub enum Verdict {
     Spent,
@@ -33,6 +36,7 @@ pub enum Verdict {
 }
 
 /// Judges the bytes of a journal. Its contract also has the laws of such bytes.
+#[tactic(auto, using(crate::proofs::Laws::journal_laws))]
 pub fn judge(bytes: &[u8]) -> Verdict
     ensures judged { Judged bytes.now result }
     ensures laws { JournalLaws }
@@ -46,21 +50,19 @@ pub fn judge(bytes: &[u8]) -> Verdict
     if !length_holds(bytes.len(), header.count) {
         return Verdict::Damaged { record: 0 };
     }
-    let wrong = first_wrong(bytes, header);
-    if wrong > 0 {
-        return Verdict::Damaged { record: wrong };
+    if let Some(index) = first_wrong(bytes, header) {
+        return Verdict::Damaged { record: index + 1 };
     }
     let end = record_place(header.count);
-    let mut name = None;
-    if bytes.len() > end {
-        if !super_holds(&bytes[end..bytes.len()]) {
-            return Verdict::Damaged { record: 0 };
-        }
-        name = Some(Span {
+    let past = &bytes[end..];
+    let name = match past {
+        [] => None,
+        _ if super_holds(past) => Some(Span {
             place: end + 4,
-            length: bytes.len() - end - SUPER_EXTRA,
-        });
-    }
+            length: past.len() - SUPER_EXTRA,
+        }),
+        _ => return Verdict::Damaged { record: 0 },
+    };
     Verdict::Sound(Sound {
         count: header.count,
         nonce: header.nonce,

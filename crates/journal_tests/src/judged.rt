@@ -89,9 +89,9 @@ fn a_super_journal_is_read_back(rt: HostRuntime) -> Result<(), Fail> {
         Ok(20)
     );
     let names = read_names(&buffer[0..20]).ok_or("no super-journal")?;
-    assert_eq!(rt; names.count, 2);
-    assert_eq!(rt; names.places[1].place, 10);
-    assert_eq!(rt; names.places[1].length, 9);
+    assert_eq!(rt; names.len(), 2);
+    assert_eq!(rt; names.as_slice()[1].place, 10);
+    assert_eq!(rt; names.as_slice()[1].length, 9);
     assert_eq!(rt; read_names(&buffer[0..19]).is_some(), false);
     assert_eq!(rt;
         put_names(&mut buffer, &[&b"a\0b"[..]]),

@@ -8,12 +8,16 @@ use Rattle.journal.specs.Judged.{record_place, page_bytes}
 use Rattle.journal_writer.specs.declared.writer.Refusal.{Refusal}
 use Rattle.journal_writer.specs.declared.writer.Refusal.TheVariants.{Limit, Room}
 
--- bytes put at a place of a buffer, if the part is within the limits and there is room for it;
+-- a part put into a buffer, as is said of it, if it is within the limits and there is room up to its end;
 -- a refusal leaves the buffer, and limits are told before want of room
+abbrev pub PutTo : Bytes → ℕ → Bool → Type 0 → Result (Unit {0}) Refusal → Bytes → Type 0
+PutTo old end lawful Done (Ok u) new = (lawful ≡ true) × (end ≤ length old) × Done
+PutTo old end lawful Done (Err Limit) new = (lawful ≡ false) × (new ≡ old)
+PutTo old end lawful Done (Err Room) new = (lawful ≡ true) × (length old < end) × (new ≡ old)
+
+-- the same of bytes put at a place
 abbrev pub Put : Bytes → ℕ → ℕ → Bytes → Bool → Result (Unit {0}) Refusal → Bytes → Type 0
-Put old place size bytes lawful (Ok u) new = (lawful ≡ true) × (place + size ≤ length old) × (new ≡ overwrite old place bytes)
-Put old place size bytes lawful (Err Limit) new = (lawful ≡ false) × (new ≡ old)
-Put old place size bytes lawful (Err Room) new = (lawful ≡ true) × (length old < place + size) × (new ≡ old)
+Put old place size bytes lawful r new = PutTo old (place + size) lawful (new ≡ overwrite old place bytes) r new
 
 abbrev pub size_lawful : ℕ → Bool
 size_lawful size = nat_le 1 size && nat_le size page_limit

@@ -1,50 +1,41 @@
 // A whole journal around pages that lie in a buffer already, at the places of their records: what
 // a store reads from its database before a commit goes straight there, and is not copied again.
-ghost use Rattle.std.specs.Prelude.{◌≡◌, ℕ, ◌+◌, ◌*◌, ◌<◌, ◌≤◌, true, false, ◌&&◌, length as count_bytes};
+ghost use Rattle.std.specs.Prelude.{◌≡◌, ℕ, ◌+◌, ◌*◌, ◌<◌, ◌≤◌, true, false, ◌&&◌, slice_index, length as count_bytes};
 ghost use Rattle.card.specs.Calls.{overwrite};
 ghost use Rattle.journal.specs.Format.{record_bytes, records_bytes, super_bytes};
 ghost use Rattle.journal.specs.Judged.{record_place as place_of, page_bytes};
-ghost use Rattle.journal_writer.specs.Written.{Filled, made_lawful, pages_lawful, given_lawful, told, originals};
+ghost use Rattle.journal_writer.specs.Written.{Filled, made_lawful, ascend, pages_lawful, given_lawful, told, originals};
 
-use crate::writer::{Refusal, fill_header, fill_name, put_number};
-use card::NAME_LIMIT;
-use journal::{PAGE_LIMIT, RECORD_LIMIT, SUPER_EXTRA, checksum, record_place};
+use crate::writer::{Refusal, fill_header, fill_name, is_name, is_size, put_number};
+use journal::{RECORD_LIMIT, SUPER_EXTRA, checksum, record_place};
+
+/// Whether each page is past the one before it, and none past the size.
+fn ascends(pages: &[u32], size: u32) -> bool
+    requires { 0 < slice_index pages.now 0 }
+    ensures { result ≡ ascend size 0 pages.now }
+{
+    pages.is_sorted_by(|page, next| *page < *next) && pages.iter().all(|page| *page <= size)
+}
 
 /// Whether a journal may have the pages: the first is 1, each later one is past the one before it, none past the size.
 fn pages_hold(pages: &[u32], size: u32) -> bool
     ensures { result ≡ pages_lawful size pages.now }
 {
-    if pages.len() < 1 || pages.len() > RECORD_LIMIT as usize || pages[0] != 1 {
-        return false;
-    }
-    let mut last = 0;
-    for page in pages {
-        if *page <= last {
-            return false;
-        }
-        if *page > size {
-            return false;
-        }
-        last = *page;
-    }
-    true
+    pages.first() == Some(&1) && pages.len() <= RECORD_LIMIT as usize && ascends(pages, size)
 }
 
 /// Whether a journal may have the super-journal's name, or none.
 fn name_holds(name: Option<&[u8]>) -> bool
     ensures { result ≡ given_lawful (told name.entry) }
 {
-    match name {
-        Some(name) => name.len() >= 1 && name.len() <= NAME_LIMIT,
-        None => true,
-    }
+    name.is_none_or(is_name)
 }
 
 /// Whether a journal may be made with the size, the pages and the name.
 fn is_made(size: u32, pages: &[u32], name: Option<&[u8]>) -> bool
     ensures { result ≡ made_lawful size pages.now (told name.entry) }
 {
-    size >= 1 && size <= PAGE_LIMIT && pages_hold(pages, size) && name_holds(name)
+    is_size(size) && pages_hold(pages, size) && name_holds(name)
 }
 
 /// How long the super-journal record is, if there is one.
@@ -52,10 +43,7 @@ fn super_length(name: Option<&[u8]>) -> usize
     requires { given_lawful (told name) ≡ true }
     ensures { result ≡ count_bytes (super_bytes (told name.entry)) }
 {
-    match name {
-        Some(name) => SUPER_EXTRA + name.len(),
-        None => 0,
-    }
+    name.map_or(0, |name| SUPER_EXTRA + name.len())
 }
 
 /// Makes a record of the page that lies at its place.
@@ -75,12 +63,14 @@ fn seal_records(buffer: &mut [u8], nonce: u32, pages: &[u32])
     requires room { 512 + 520 * count_bytes pages.now ≤ count_bytes buffer.old }
     ensures { buffer.new ≡ overwrite buffer.old 512 (records_bytes nonce (originals buffer.old 0 pages.now)) }
 {
-    for index in 0..pages.len() {
-        seal_record(buffer, index as u32, nonce, pages[index]);
+    for (index, page) in pages.iter().enumerate() {
+        seal_record(buffer, index as u32, nonce, *page);
     }
 }
 
 /// Fills the buffer with a journal of count 0 around the pages that lie in it, and tells the journal's length.
+///
+/// Not by `put` of a part: how long the journal is can be told only of lawful numbers.
 pub fn fill_journal(
     buffer: &mut [u8],
     nonce: u32,

@@ -1,11 +1,12 @@
 // The parts of a journal, put into a caller's buffer. A journal is written with count 0: the count
 // goes in apart, when all else is safe.
-ghost use Rattle.std.specs.Prelude.{◌≡◌, ℕ, ◌+◌, ◌*◌, ◌<◌, ◌≤◌, true, false, ◌&&◌, length as count_bytes, Some};
-ghost use Rattle.card.specs.Calls.{overwrite};
+ghost use Rattle.std.specs.Prelude.{◌≡◌, ℕ, ◌+◌, ◌*◌, ◌<◌, ◌≤◌, true, false, ◌&&◌, length as count_bytes, Some, IsTrue};
+ghost use Rattle.std.specs.Fn.{FnOnceTakesAtMut, FnOnceReturnsAtMut};
+ghost use Rattle.card.specs.Calls.{overwrite, name_ok};
 ghost use Rattle.card.specs.Numbers.{number_bytes};
 ghost use Rattle.journal.specs.Format.{header as header_bytes, record_bytes, super_bytes, Octets};
 ghost use Rattle.journal.specs.Judged.{record_place as place_of};
-ghost use Rattle.journal_writer.specs.Written.{Put, size_lawful, record_lawful, name_lawful, count_lawful};
+ghost use Rattle.journal_writer.specs.Written.{Put, PutTo, size_lawful, record_lawful, name_lawful, count_lawful};
 
 use card::NAME_LIMIT;
 use journal::{
@@ -51,25 +52,59 @@ pub fn fill_header(buffer: &mut [u8], nonce: u32, size: u32)
     put_number(buffer, 24, PAGE as u32);
 }
 
+/// Puts a part that ends at a place of the buffer, if it is within the limits and there is room.
+fn put<F: FnOnce(&mut [u8])>(
+    buffer: &mut [u8],
+    is_lawful: bool,
+    end: usize,
+    work: F,
+) -> Result<(), Refusal>
+    requires { IsTrue is_lawful → end ≤ count_bytes buffer.old → FnOnceTakesAtMut F.FnOnce work buffer.old }
+    ensures { PutTo buffer.old end is_lawful (FnOnceReturnsAtMut F.FnOnce work buffer.old tt buffer.new) result buffer.new }
+{
+    if !is_lawful {
+        return Err(Refusal::Limit);
+    }
+    if buffer.len() < end {
+        return Err(Refusal::Room);
+    }
+    work(buffer);
+    Ok(())
+}
+
+/// Whether a database may have so many pages.
+pub fn is_size(size: u32) -> bool
+    ensures { result ≡ size_lawful size }
+{
+    (1..=PAGE_LIMIT).contains(&size)
+}
+
 /// Puts a header of count 0 at the start of the buffer.
 pub fn put_header(buffer: &mut [u8], nonce: u32, size: u32) -> Result<(), Refusal>
     ensures { Put buffer.old 0 512 (header_bytes 0 nonce size) (size_lawful size) result buffer.new }
 {
-    if size < 1 || size > PAGE_LIMIT {
-        return Err(Refusal::Limit);
-    }
-    if buffer.len() < SECTOR {
-        return Err(Refusal::Room);
-    }
-    fill_header(buffer, nonce, size);
-    Ok(())
+    put(buffer, is_size(size), SECTOR, |buffer| {
+        fill_header(buffer, nonce, size)
+    })
 }
 
 /// Whether a record may have the index, from 0, the page number and the page.
 fn is_record(index: u32, page: u32, bytes: &[u8]) -> bool
     ensures { result ≡ record_lawful index page bytes.now }
 {
-    index < RECORD_LIMIT && page >= 1 && page <= PAGE_LIMIT && bytes.len() == PAGE
+    index < RECORD_LIMIT && (1..=PAGE_LIMIT).contains(&page) && bytes.len() == PAGE
+}
+
+/// Puts the record of a page at a place.
+fn fill_record(buffer: &mut [u8], place: usize, nonce: u32, page: u32, bytes: &[u8])
+    requires room { place + 520 ≤ count_bytes buffer.old }
+    requires whole { count_bytes bytes.now ≡ 512 }
+    ensures { buffer.new ≡ overwrite buffer.old place (record_bytes nonce (record { page = page; bytes = bytes.now })) }
+{
+    let sum = checksum(nonce, bytes);
+    put_number(buffer, place, page);
+    put_bytes(buffer, place + 4, bytes);
+    put_number(buffer, place + 516, sum);
 }
 
 /// Puts the record of a page at its place, by its index from 0.
@@ -82,25 +117,25 @@ pub fn put_record(
 ) -> Result<(), Refusal>
     ensures { Put buffer.old (place_of index) 520 (record_bytes nonce (record { page = page; bytes = bytes.now })) (record_lawful index page bytes.now) result buffer.new }
 {
-    if !is_record(index, page, bytes) {
-        return Err(Refusal::Limit);
-    }
     let place = record_place(index);
-    if buffer.len() < place + RECORD {
-        return Err(Refusal::Room);
-    }
-    let sum = checksum(nonce, bytes);
-    put_number(buffer, place, page);
-    put_bytes(buffer, place + 4, bytes);
-    put_number(buffer, place + 516, sum);
-    Ok(())
+    let is_lawful = is_record(index, page, bytes);
+    put(buffer, is_lawful, place + RECORD, |buffer| {
+        fill_record(buffer, place, nonce, page, bytes)
+    })
+}
+
+/// Whether a journal's super-journal may have the name.
+pub fn is_name(name: &[u8]) -> bool
+    ensures { result ≡ name_ok name.now }
+{
+    (1..=NAME_LIMIT).contains(&name.len())
 }
 
 /// Whether a super-journal record may stand past so many records, and have the name.
 fn is_named(count: u32, name: &[u8]) -> bool
     ensures { result ≡ name_lawful count name.now }
 {
-    count >= 1 && count <= RECORD_LIMIT && name.len() >= 1 && name.len() <= NAME_LIMIT
+    (1..=RECORD_LIMIT).contains(&count) && is_name(name)
 }
 
 /// Puts a super-journal record at a place.
@@ -122,27 +157,18 @@ pub fn fill_name(buffer: &mut [u8], place: usize, name: &[u8])
 pub fn put_name(buffer: &mut [u8], count: u32, name: &[u8]) -> Result<(), Refusal>
     ensures { Put buffer.old (place_of count) (20 + count_bytes name.now) (super_bytes (Some name.now)) (name_lawful count name.now) result buffer.new }
 {
-    if !is_named(count, name) {
-        return Err(Refusal::Limit);
-    }
     let place = record_place(count);
-    if buffer.len() < place + SUPER_EXTRA + name.len() {
-        return Err(Refusal::Room);
-    }
-    fill_name(buffer, place, name);
-    Ok(())
+    let end = place + SUPER_EXTRA + name.len();
+    put(buffer, is_named(count, name), end, |buffer| {
+        fill_name(buffer, place, name)
+    })
 }
 
 /// Puts the count into the header at the start of the buffer.
 pub fn put_count(buffer: &mut [u8], count: u32) -> Result<(), Refusal>
     ensures { Put buffer.old 8 4 (number_bytes count) (count_lawful count) result buffer.new }
 {
-    if count > RECORD_LIMIT {
-        return Err(Refusal::Limit);
-    }
-    if buffer.len() < 12 {
-        return Err(Refusal::Room);
-    }
-    put_number(buffer, 8, count);
-    Ok(())
+    put(buffer, count <= RECORD_LIMIT, 12, |buffer| {
+        put_number(buffer, 8, count)
+    })
 }

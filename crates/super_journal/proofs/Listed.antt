@@ -1,10 +1,12 @@
 -- Names in a list, tested and put one by one.
-use Rattle.std.proofs.Common.{◌≡◌, ℕ, zero, suc, ◌+◌, ◌<◌, ◌≤◌, List, [], ◌∷◌, ◌++◌, length, get_or, take, sym, refl, ap, ◌∙◌, append_assoc, arith, length-append, Bor}
-use Rattle.std.specs.List.{AllByRecursion}
+use Rattle.std.proofs.Common.{◌≡◌, ℕ, Bool, true, false, MatchBool, Decides, zero, suc, ◌+◌, ◌*◌, ◌<◌, ◌≤◌, List, [], ◌∷◌, ◌++◌, length, get_or, take, sym, refl, ap, ◌∙◌, subst, append_assoc, arith, length-append, Bor}
+use Rattle.std.specs.List.{AllByRecursion, AllWithin, HoldsAt, sum_by}
+use Rattle.std.proofs.lemmas.List.Sums.{sum_by-cons}
 use Rattle.std.proofs.lemmas.List.{take_more}
+use Rattle.std.proofs.lemmas.Bool.{false≢true}
 use Rattle.card.specs.Meaning.{Bytes, Name}
 use Rattle.card.specs.Calls.{overwrite}
-use Rattle.super_journal.specs.Super.{super_journal_bytes, Plain}
+use Rattle.super_journal.specs.Super.{super_journal_bytes, Plain, LawfulNames}
 use Rattle.super_journal.specs.Written.{texts}
 use Rattle.journal.proofs.Pieces.{overwrite_append}
 use Rattle.super_journal.proofs.Names.{super_push}
@@ -26,6 +28,31 @@ pub each_all : (ns : List Name) → AllByRecursion Plain ns → (k : ℕ) → k 
 each_all [] all k lt = absurd (omega arith)
 each_all (n ∷ ns) all zero lt = all.0
 each_all (n ∷ ns) all (suc k) lt = each_all ns all.1 k (omega arith)
+
+-- names tested each, where there are as many as a super-journal has
+pub hold_is :
+    (rs : List (Bor Bytes)) (r : Bool) → (1 ≤ length rs) × (length rs ≤ 4) →
+    MatchBool r (AllWithin (λ n. Plain n.now) rs 0 (length rs)) ((k : ℕ) × (k < length rs) × HoldsAt (λ n. Plain n.now → ⊥) rs k) → Decides r (LawfulNames (texts rs))
+hold_is rs true few all = (
+  λ t. record {
+    some = omega (arith, few, length_texts rs);
+    few = omega (arith, few, length_texts rs);
+    each = all_each (texts rs) (λ k lt. subst Plain (sym (text_at rs k)) (all k _ (omega arith) (omega (arith, length_texts rs))));
+  },
+  λ ok. refl,
+)
+hold_is rs false few not = (λ t. absurd (false≢true t), λ ok. absurd (not.2 _ (subst Plain (text_at rs not.0) (each_all (texts rs) ok.each not.0 (omega (arith, not.1, length_texts rs))))))
+
+-- the names' lengths, each with its zero byte
+pub length_names : (rs : List (Bor Bytes)) → sum_by (λ n. length n.now + 1) rs ≡ length (super_journal_bytes (texts rs))
+unfolding super_journal_bytes
+length_names [] = refl
+length_names (r ∷ rs) = omega (arith, sum_by-cons (λ (n : Bor Bytes). length n.now + 1) r rs, length-append r.now (0 ∷ super_journal_bytes (texts rs)), length_names rs)
+
+pub length_few : (ns : List Name) → AllByRecursion Plain ns → length (super_journal_bytes ns) ≤ 33 * length ns
+unfolding super_journal_bytes
+length_few [] all = omega arith
+length_few (n ∷ ns) all = omega (arith, all.0.short, length-append n (0 ∷ super_journal_bytes ns), length_few ns all.1)
 
 -- one more name
 module _ (ns : List Name) (k : ℕ) (lt : k < length ns) where

@@ -1,8 +1,8 @@
 -- Names in a super-journal, found one after the other by the zero bytes that end them.
-use Rattle.std.proofs.Common.{◌≡◌, ℕ, suc, ◌+◌, ◌-◌, ◌<◌, ◌≤◌, List, [], ◌∷◌, ◌++◌, length, get_or, take, drop, set, sym, refl, ap, ◌∙◌, subst, ap₂, append_assoc, arith, length-append, length-drop, length-set, length-take, take-add, below_more}
+use Rattle.std.proofs.Common.{◌≡◌, ℕ, suc, ◌+◌, ◌-◌, ◌<◌, ◌≤◌, List, [], ◌∷◌, ◌++◌, length, get_or, take, drop, sym, refl, ap, ◌∙◌, subst, ap₂, append_assoc, arith, length-append, length-drop, take-add, below_more}
 use native.Mathlib.Decide.{dec_lt}
 use Rattle.std.specs.List.{AllByRecursion}
-use Rattle.std.proofs.lemmas.List.{take-append-drop, take_more, take_more_set, take_all, drop_more, drop-drop, get_or-take, get_or-drop, get_or-append_right}
+use Rattle.std.proofs.lemmas.List.{take-append-drop, take_more, take_all, drop_more, drop-drop, get_or-take, get_or-drop, get_or-append_right}
 use Rattle.card.specs.Meaning.{Bytes, Name}
 use Rattle.card.specs.Calls.{part}
 use Rattle.super_journal.specs.Super.{super_journal_bytes, Unbroken, Plain, LawfulNames, lying_at}
@@ -54,27 +54,25 @@ all_push [] n ps p = (p, tt)
 all_push (m ∷ ns) n ps p = (ps.0, all_push ns n ps.1 p)
 
 -- the names found so far: those that end before the start of the next, which has no zero byte up to i
-pub record Found (b : Bytes) (places : List Span) (count start i : ℕ) : Type 0 where
-  pub long : length places ≡ 4
-  pub few : count ≤ 4
+pub record Found (b : Bytes) (found : List Span) (start i : ℕ) : Type 0 where
+  pub few : length found ≤ 4
   pub upto : start ≤ i
   pub inside : start ≤ length b
-  pub front : take start b ≡ super_journal_bytes (lying_at b (take count places))
-  pub plain : AllByRecursion Plain (lying_at b (take count places))
+  pub front : take start b ≡ super_journal_bytes (lying_at b found)
+  pub plain : AllByRecursion Plain (lying_at b found)
   pub unbroken : (k : ℕ) → k < i → start ≤ k → get_or b k 0 ≡ 0 → ⊥
 
-pub found_none : (b : Bytes) (places : List Span) → length places ≡ 4 → Found b places 0 0 0
+pub found_none : (b : Bytes) → Found b [] 0 0
 unfolding super_journal_bytes
-found_none b places four = record { long = four; few = omega arith; upto = omega arith; inside = omega arith; front = refl; plain = tt; unbroken = λ k lt. absurd (omega arith) }
+found_none b = record { few = omega arith; upto = omega arith; inside = omega arith; front = refl; plain = tt; unbroken = λ k lt. absurd (omega arith) }
 
-module _ (b : Bytes) (places : List Span) (count start i : ℕ) (so_far : Found b places count start i) where
+module _ (b : Bytes) (found : List Span) (start i : ℕ) (so_far : Found b found start i) where
   abbrev names : List Name
-  names = lying_at b (take count places)
+  names = lying_at b found
 
-  pub found_skip : (get_or b i 0 ≡ 0 → ⊥) → Found b places count start (i + 1)
+  pub found_skip : (get_or b i 0 ≡ 0 → ⊥) → Found b found start (i + 1)
   found_skip ne =
       record {
-        long = so_far.long;
         few = so_far.few;
         upto = omega (arith, so_far.upto);
         inside = so_far.inside;
@@ -84,13 +82,13 @@ module _ (b : Bytes) (places : List Span) (count start i : ℕ) (so_far : Found 
       }
 
   -- bytes that are a super-journal go on with names from the start on
-  goes_on : (ms : List Name) → LawfulNames ms → b ≡ super_journal_bytes ms → (qs : List Name) × AllByRecursion Plain qs × (drop start b ≡ super_journal_bytes qs) × (length ms ≡ count + length qs)
+  goes_on : (ms : List Name) → LawfulNames ms → b ≡ super_journal_bytes ms → (qs : List Name) × AllByRecursion Plain qs × (drop start b ≡ super_journal_bytes qs) × (length ms ≡ length found + length qs)
   goes_on ms ok e =
       let more = names_front names ms (drop start b) so_far.plain ok.each (ap (λ (t : Bytes). t ++ drop start b) (sym so_far.front) ∙ take-append-drop start b ∙ e) in
       (more.0, more.1, more.2, more.3 ∙ ap (λ (n : ℕ). n + length more.0) counted)
     where
-      counted : length names ≡ count
-      counted = length_lying b (take count places) ∙ omega (arith, length-take count places, so_far.long, so_far.few)
+      counted : length names ≡ length found
+      counted = length_lying b found
 
   -- the name that ends at i
   module _ (in_bytes : i < length b) (ends : get_or b i 0 ≡ 0) where
@@ -115,22 +113,21 @@ module _ (b : Bytes) (places : List Span) (count start i : ℕ) (so_far : Found 
         (drop-drop (i - start) start b ∙ ap (λ (m : ℕ). drop m b) back ∙ drop_more b i 0 in_bytes ∙ ap (λ (x : ℕ). x ∷ drop (i + 1) b) ends)
 
     -- a super-journal has it
-    pub must_fit : (ms : List Name) → LawfulNames ms → b ≡ super_journal_bytes ms → (count < 4) × (1 ≤ i - start) × (i - start ≤ 32)
+    pub must_fit : (ms : List Name) → LawfulNames ms → b ≡ super_journal_bytes ms → (length found < 4) × (1 ≤ i - start) × (i - start ≤ 32)
     unfolding super_journal_bytes
     must_fit ms ok e = let on = goes_on ms ok e in by on.0 on.1 on.2 on.3
       where
-        by : (qs : List Name) → AllByRecursion Plain qs → drop start b ≡ super_journal_bytes qs → length ms ≡ count + length qs → (count < 4) × (1 ≤ i - start) × (i - start ≤ 32)
+        by : (qs : List Name) → AllByRecursion Plain qs → drop start b ≡ super_journal_bytes qs → length ms ≡ length found + length qs → (length found < 4) × (1 ≤ i - start) × (i - start ≤ 32)
         by [] ps is n = absurd (omega (arith, ap length is, length-drop start b, so_far.upto))
         by (q ∷ qs) ps is n =
             let same : (next ≡ q) × (drop (i + 1) b ≡ super_journal_bytes qs) = first_zero next q (drop (i + 1) b) (super_journal_bytes qs) next_unbroken ps.0.unbroken (sym rest_is ∙ is) in
             let size : length next ≡ length q = ap length same.0 in
             (omega (arith, n, ok.few), omega (arith, next_long, size, ps.0.some), omega (arith, next_long, size, ps.0.short))
 
-    pub found_more : count < 4 → 1 ≤ i - start → i - start ≤ 32 → Found b (set places count (record { place = start; length = i - start })) (count + 1) (i + 1) (i + 1)
+    pub found_more : length found < 4 → 1 ≤ i - start → i - start ≤ 32 → Found b (found ++ (record { place = start; length = i - start } ∷ [])) (i + 1) (i + 1)
     found_more room some short =
         record {
-          long = length-set places count span ∙ so_far.long;
-          few = omega arith;
+          few = omega (arith, length-append found (span ∷ []));
           upto = omega arith;
           inside = omega arith;
           front =
@@ -147,8 +144,8 @@ module _ (b : Bytes) (places : List Span) (count start i : ℕ) (so_far : Found 
         span : Span
         span = record { place = start; length = i - start }
 
-        more : lying_at b (take (count + 1) (set places count span)) ≡ names ++ (next ∷ [])
-        more = ap (lying_at b) (take_more_set places count span (omega (arith, so_far.long))) ∙ lying_push b (take count places) span
+        more : lying_at b (found ++ (span ∷ [])) ≡ names ++ (next ∷ [])
+        more = lying_push b found span
 
   module _ (all : length b ≤ i) where
     -- the last name has no end
@@ -166,19 +163,19 @@ module _ (b : Bytes) (places : List Span) (count start i : ℕ) (so_far : Found 
             ∙ get_or-append_right q (0 ∷ super_journal_bytes qs) (length q) (length q) 0 refl (omega arith) ∙ ap (λ (m : ℕ). get_or (0 ∷ super_journal_bytes qs) m 0) none)
 
     -- there is no name
-    pub none_found : (ms : List Name) → count ≡ 0 → LawfulNames ms → b ≡ super_journal_bytes ms → ⊥
+    pub none_found : (ms : List Name) → length found ≡ 0 → LawfulNames ms → b ≡ super_journal_bytes ms → ⊥
     unfolding super_journal_bytes
     none_found ms zero-count ok e = let on = goes_on ms ok e in by on.0 on.2 on.3 (dec_lt start (length b))
       where
-        by : (qs : List Name) → drop start b ≡ super_journal_bytes qs → length ms ≡ count + length qs → Dec (start < length b) → ⊥
+        by : (qs : List Name) → drop start b ≡ super_journal_bytes qs → length ms ≡ length found + length qs → Dec (start < length b) → ⊥
         by qs is n (yes more) = no_end ms more ok e
         by [] is n (no done) = omega (arith, ok.some)
         by (q ∷ qs) is n (no done) = omega (arith, ap length is, length-drop start b, length-append q (0 ∷ super_journal_bytes qs))
 
   -- the bytes are those of the names found
-  pub all_found : 1 ≤ count → length b ≤ start → LawfulNames names × (b ≡ super_journal_bytes names)
+  pub all_found : 1 ≤ length found → length b ≤ start → LawfulNames names × (b ≡ super_journal_bytes names)
   all_found some done =
       (record { some = omega (arith, counted); few = omega (arith, counted, so_far.few); each = so_far.plain }, sym (take_all start b done) ∙ so_far.front)
     where
-      counted : length names ≡ count
-      counted = length_lying b (take count places) ∙ omega (arith, length-take count places, so_far.long, so_far.few)
+      counted : length names ≡ length found
+      counted = length_lying b found

@@ -1,53 +1,32 @@
 // The super-journal file, put into a caller's buffer.
-ghost use Rattle.std.specs.Prelude.{◌≡◌, ℕ, ◌+◌, ◌*◌, ◌<◌, ◌≤◌, length as count_of, Decides};
+ghost use Rattle.std.specs.Prelude.{◌≡◌, ℕ, ◌+◌, ◌*◌, ◌<◌, ◌≤◌, ◌^◌, sum_by, length as count_of, Decides};
 ghost use Rattle.card.specs.Calls.{overwrite};
 ghost use Rattle.super_journal.specs.Super.{super_journal_bytes as names_bytes, LawfulNames, Plain};
 ghost use Rattle.super_journal.specs.Written.{Named, texts};
 
-use crate::reader::NAME_COUNT_LIMIT;
-use card::NAME_LIMIT;
+use crate::reader::{NAME_COUNT_LIMIT, is_length};
 use journal_writer::{Refusal, put_bytes};
 
 /// Whether a name can stand in a super-journal: 1 to 32 bytes, none of them zero.
 fn is_plain(name: &[u8]) -> bool
     ensures { Decides result (Plain name.now) }
 {
-    if name.len() < 1 || name.len() > NAME_LIMIT {
-        return false;
-    }
-    for b in name {
-        if *b == 0 {
-            return false;
-        }
-    }
-    true
+    is_length(name.len()) && !name.contains(&0)
 }
 
 /// Whether a super-journal can have the names.
 fn names_hold(names: &[&[u8]]) -> bool
     ensures { Decides result (LawfulNames (texts names.now)) }
 {
-    if names.len() < 1 || names.len() > NAME_COUNT_LIMIT {
-        return false;
-    }
-    for k in 0..names.len() {
-        if !is_plain(names[k]) {
-            return false;
-        }
-    }
-    true
+    (1..=NAME_COUNT_LIMIT).contains(&names.len()) && names.iter().all(|name| is_plain(name))
 }
 
 /// How long the super-journal of the names is.
 fn names_length(names: &[&[u8]]) -> usize
-    requires { LawfulNames (texts names.now) }
+    requires { sum_by (λ n. count_of n.now + 1) names.now < 2 ^ 64 }
     ensures { result ≡ count_of (names_bytes (texts names.now)) }
 {
-    let mut total = 0;
-    for k in 0..names.len() {
-        total += names[k].len() + 1;
-    }
-    total
+    names.iter().map(|name| name.len() + 1).sum()
 }
 
 /// Puts the names at the start of the buffer, each with a zero byte after it.
@@ -57,8 +36,7 @@ fn fill_names(buffer: &mut [u8], names: &[&[u8]])
     ensures { buffer.new ≡ overwrite buffer.old 0 (names_bytes (texts names.now)) }
 {
     let mut at = 0;
-    for k in 0..names.len() {
-        let name = names[k];
+    for name in names {
         put_bytes(buffer, at, name);
         put_bytes(buffer, at + name.len(), &[0u8]);
         at += name.len() + 1;
@@ -66,6 +44,8 @@ fn fill_names(buffer: &mut [u8], names: &[&[u8]])
 }
 
 /// Fills the buffer with the super-journal of the names, and tells its length.
+///
+/// Not as the writer of journals puts a part: how long it is can be told only of lawful names.
 pub fn put_names(buffer: &mut [u8], names: &[&[u8]]) -> Result<usize, Refusal>
     ensures { Named buffer.old (texts names.now) result buffer.new }
 {

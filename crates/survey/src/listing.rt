@@ -68,7 +68,7 @@ fn check_list<C: Card>(card: &mut C, names: &Names, bytes: &[u8]) -> Result<(), 
             record: 0,
         });
     };
-    check_names(card, names, bytes, &list.places[0..list.count])
+    check_names(card, names, bytes, list.as_slice())
 }
 
 /// Reads the present super-journal to the front of the buffer, and tells its length; none if it is

@@ -19,12 +19,3 @@ returns-then-number-header c =
     let page-number : number_at b at ≡ number_at b (record_place k) = ap (number_at b) is in
     let stored : number_at b (at + 516) ≡ number_at b (record_place k + 516) = ap (λ (n : ℕ). number_at b (n + 516)) is in
     grind (arith, nat_tests, sum, page-number, stored)
-
-pub returns-else-number-header : goal.returns-else-number-header
-unfolding record_right
-returns-else-number-header c =
-    let b = c.args.bytes.now in
-    let k = c.args.index in
-    let at = c.record_place-place.result in
-    let page-number : number_at b at ≡ number_at b (record_place k) = ap (number_at b) c.record_place-place.ensures in
-    grind (arith, nat_tests, page-number)

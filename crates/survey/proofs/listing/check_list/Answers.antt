@@ -1,5 +1,4 @@
-use Rattle.std.proofs.Common.{◌≡◌, ℕ, ◌-◌, List, take, sym, refl, ap, subst}
-use native.Mathlib.Nat.{sub-zero}
+use Rattle.std.proofs.Common.{◌≡◌, ℕ, List, sym, refl, subst}
 use Rattle.card.specs.Meaning.{Name}
 use Rattle.super_journal.specs.Super.{LawfulNames, super_journal_bytes, lying_at}
 use Rattle.journal.specs.declared.verdict.Span.{Span}
@@ -17,18 +16,16 @@ returns-in_default g c = record { looked = looked_end _ _ _ _; told = (refl, ref
 
 pub check_names-requires : goal.check_names-requires
 check_names-requires g c =
-    let list = c.in-Some.list in
-    subst (λ (k : ℕ). LawfulNames (lying_at c.args.bytes.now (take k list.places))) (sym (sub-zero list.count)) c.in-Some.ensures.0
+    ap_at LawfulNames c.args.bytes.now (sym c.as_slice.ensures.is) c.in-Some.ensures.0
 
 pub returns : goal.returns
 returns g c =
-    let list = c.in-Some.list in
     let b = c.args.bytes.now in
     let file = file_of c.args.names.now in
     let n = c.args.names.now.count in
     let files = g.C.Card.meaning.holds c.args.card.now in
-    let ns = lying_at b (take (list.count - 0) list.places) in
-    let same : take list.count list.places ≡ take (list.count - 0) list.places = ap (λ (k : ℕ). take k list.places) (sym (sub-zero list.count)) in
+    let ns = lying_at b c.as_slice.result.now in
+    let same = sym c.as_slice.ensures.is in
     let lawful : LawfulNames ns = ap_at LawfulNames b same c.in-Some.ensures.0 in
     let bytes : b ≡ super_journal_bytes ns = ap_at (λ (x : List Name). b ≡ super_journal_bytes x) b same c.in-Some.ensures.1 in
     record {

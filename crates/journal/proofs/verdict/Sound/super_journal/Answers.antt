@@ -1,31 +1,19 @@
-use Rattle.std.proofs.Common.{◌≡◌, ℕ, ◌+◌, ◌-◌, take, drop, Some, None, sym, ap, ◌∙◌, arith}
-use Rattle.std.proofs.lemmas.Bool.{both_ways, cond-true, cond-false}
+use Rattle.std.proofs.Common.{◌≡◌, true, false, Some, None, Option, ap, ◌∙◌, Bor}
+use Rattle.std.specs.Option.{MatchOption}
+use Rattle.std.proofs.lemmas.Bool.{both_ways}
+use Rattle.card.specs.Meaning.{Bytes}
 use Rattle.card.specs.Calls.{part}
-use Rattle.journal.specs.Read.{lying, within}
-use Rattle.journal.proofs.InPlace.{name_told, no_name}
+use Rattle.journal.specs.Read.{NameTold, within}
+use Rattle.journal.specs.declared.verdict.Sound.{Sound}
+use Rattle.journal.specs.declared.verdict.Span.{Span}
+use Rattle.journal.proofs.InPlace.{name_told}
 use Rattle.journal.proofs.verdict.Sound.super_journal.Goals as goal
 
-pub returns-in_default : goal.returns-in_default
-returns-in_default c = record { is = ap (lying c.args.bytes.now) c.in_default.is; told = λ j of. no_name c.args.bytes.now c.args.self.now j of c.in_default.is }
+told :
+    (b : Bytes) (s : Sound) (span : Span) → s.name ≡ Some span → (r : Option (Bor Bytes)) →
+    MatchOption r (within b span ≡ false) (λ p. (within b span ≡ true) × (p.now ≡ part b span.place span.length)) → MatchOption r (NameTold b s None) (λ n. NameTold b s (Some n.now))
+told b s span is None out = λ j of. absurd (both_ways _ out (name_told b s j of span is).0)
+told b s span is (Some p) there = λ j of. ap (λ (n : Bytes). Some n) there.1 ∙ (name_told b s j of span is).1
 
-pub returns-then-not-is_within : goal.returns-then-not-is_within
-returns-then-not-is_within c =
-    let b = c.args.bytes.now in
-    let span = c.in-Some.span in
-    let out = sym c.is_within.ensures ∙ c.if-not-is_within.true in
-    record {
-      is = ap (lying b) c.in-Some.is ∙ cond-false (within b span) (Some (part b span.place span.length)) None out;
-      told = λ j of. absurd (both_ways _ out (name_told b c.args.self.now j of span c.in-Some.is).0);
-    }
-
-pub returns : goal.returns
-returns c =
-    let b = c.args.bytes.now in
-    let span = c.in-Some.span in
-    let long : span.place + span.length - span.place ≡ span.length = omega arith in
-    let there = sym c.is_within.ensures ∙ c.if-not-is_within.false in
-    let same = ap (λ (n : ℕ). Some (take n (drop span.place b))) long in
-    record {
-      is = ap (lying b) c.in-Some.is ∙ cond-true (within b span) (Some (part b span.place span.length)) None there ∙ sym same;
-      told = λ j of. same ∙ (name_told b c.args.self.now j of span c.in-Some.is).1;
-    }
+pub returns-clause-told : goal.returns-clause-told
+returns-clause-told c = told c.args.bytes.now c.args.self.now c.in_ok-self.field-0 c.in_ok-self.was c.of.result c.of.ensures
