@@ -1,26 +1,18 @@
 -- The saved pages after a release: what each lower savepoint saved, and what a page was at each.
 use Rattle.std.proofs.Common.{◌≡◌, ℕ, suc, ◌-◌, ◌<◌, ◌≤◌, min, Bool, true, false, cond, ◌&&◌, ◌||◌, eqb, leb, ◌⊎◌, List, [], ◌∷◌, is_some, Some, None, Option, sym, refl, ap, ◌∙◌, ap₂, inl, inr, arith}
 use native.Mathlib.Decide.{ℕ_discrete, dec_lt}
+use Rattle.std.proofs.Math.Bool.{or-false}
 use Rattle.std.proofs.lemmas.Bool.{cases_Bool, cond-true, cond-false, eqb-true, eq-eqb, ne_eqb, le-leb, lt-leb, leb-true, leb-false, and_parts, and_left, or_left, or_right, or_parts, both_ways}
 use Rattle.pager.specs.declared.saved_page.SavedPage.{SavedPage}
 use Rattle.pager.specs.declared.saved_page.Was.{Was}
 use Rattle.pager.specs.Saved.{is_saved, has, has_from, first, passed, added, gathered}
-use Rattle.pager.proofs.Saves.{saves, has_end}
+use Rattle.pager.proofs.Saves.{saves, counts, has_end, from_end}
 use Rattle.pager.proofs.Views.{or_first, first_end, has_first}
-use Rattle.pager.proofs.Keeps.{from_end}
-
--- the row counts for the page at savepoint k
-abbrev pub counts : ℕ → ℕ → ℕ → SavedPage → Bool
-counts k d p row = leb k row.level && is_saved d p row
 
 or_same : (a b : Bool) → (b ≡ true → a ≡ true) → a ≡ (a || b)
 or_same true b h = refl
 or_same false true h = absurd (both_ways false refl (h refl))
 or_same false false h = refl
-
-or_false : (a : Bool) → (a || false) ≡ a
-or_false true = refl
-or_false false = refl
 
 -- a row for the page that its savepoint has already
 known : (k d p : ℕ) (out : List SavedPage) (r : SavedPage) → is_saved d p r ≡ true → has r.level out r.database r.page ≡ true → has r.level out d p ≡ true
@@ -105,7 +97,7 @@ module _ (s d p : ℕ) where
   -- below the savepoint that takes the pages over
   pub gathered_below : (k : ℕ) (out rows : List SavedPage) → 0 < k → k < s - 1 → has k (gathered s out rows) d p ≡ (has k out d p || has k rows d p)
   unfolding gathered has
-  gathered_below k out [] some lt = sym (or_false (has k out d p))
+  gathered_below k out [] some lt = sym (or-false (has k out d p))
   gathered_below k out (row ∷ rows) some lt =
       gathered_below k (added out (passed s row)) rows some lt
       ∙ ap (λ (b : Bool). b || has k rows d p) (has_added k d p out (passed s row) some ∙ ap (λ (b : Bool). has k out d p || (b && is_saved d p row)) (eqb_min k row.level (s - 1) lt))
@@ -114,7 +106,7 @@ module _ (s d p : ℕ) where
   -- the savepoint that takes the pages over
   pub gathered_top : (k : ℕ) (out rows : List SavedPage) → 0 < k → k ≡ s - 1 → has k (gathered s out rows) d p ≡ (has k out d p || has_from k rows d p)
   unfolding gathered has_from
-  gathered_top k out [] some e = sym (or_false (has k out d p))
+  gathered_top k out [] some e = sym (or-false (has k out d p))
   gathered_top k out (row ∷ rows) some e =
       gathered_top k (added out (passed s row)) rows some e
       ∙ ap (λ (b : Bool). b || has_from k rows d p)

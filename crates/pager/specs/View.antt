@@ -76,8 +76,8 @@ abbrev pub fields : Memory → Fields
 fields m = record {
   sizes = m.sizes;
   maps = m.maps;
-  changed = take m.changed.used m.changed.rows;
-  saved = take m.saved.used m.saved.rows;
+  changed = m.changed.rows.items;
+  saved = m.saved.rows.items;
   level_sizes = m.level_sizes;
 }
 
@@ -104,7 +104,7 @@ write_refusal m d p long =
     (cond (long == 512)
     (cond (page_allowed m d p)
     (cond (total (map_of m.maps) 4 == 32 && not (map_of m.maps d p)) (Some ChangedFull)
-    (cond (m.saved.used == 32 && to_save m d p) (Some SavedFull) None))
+    (cond (length m.saved.rows.items == 32 && to_save m d p) (Some SavedFull) None))
     (Some Page))
     (Some BufferLength))
     (Some NoDatabase)

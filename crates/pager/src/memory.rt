@@ -1,6 +1,6 @@
 // What a transaction holds in memory: sizes, the changed pages, and the savepoints with the pages
 // that they saved.
-ghost use Rattle.std.specs.Prelude.{◌≡◌, ℕ, ◌≤◌, take};
+ghost use Rattle.std.specs.Prelude.{◌≡◌, ℕ, ◌≤◌};
 ghost use Rattle.pager.specs.Sound.{Sound};
 
 use crate::changed_pages::ChangedPages;
@@ -29,5 +29,5 @@ pub struct Memory {
     level_sizes: [[u32; 4]; 8],
     ghost few: { count ≤ 4 },
     ghost low: { levels ≤ 8 },
-    ghost sound: { ∥ Sound maps changed.used (take changed.used changed.rows) (take saved.used saved.rows) levels ∥₁ },
+    ghost sound: { ∥ Sound maps changed.rows.items saved.rows.items levels ∥₁ },
 }

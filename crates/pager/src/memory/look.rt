@@ -1,5 +1,5 @@
 // Making a memory, clearing it, and looking at it.
-ghost use Rattle.std.specs.Prelude.{◌≡◌, ℕ, ◌*◌, ◌<◌, ◌≤◌, min, cond, List, is_some, Some, None, MatchOption, MatchResult, slice_index};
+ghost use Rattle.std.specs.Prelude.{◌≡◌, ℕ, ◌*◌, ◌<◌, ◌≤◌, min, cond, List, [], length, is_some, Some, None, MatchOption, MatchResult, slice_index};
 ghost use Rattle.std.specs.Option.{option_map};
 ghost use Rattle.pager.specs.declared.refusal.Refusal.TheVariants.{NoDatabase};
 ghost use Rattle.pager.specs.Changed.{look};
@@ -20,7 +20,7 @@ impl Memory {
     pub fn new(count: usize, sizes: [u32; 4]) -> Memory
         ensures count { result.count ≡ min count 4 }
         ensures sizes { result.sizes ≡ sizes }
-        ensures empty { (result.changed.used ≡ 0) × (result.saved.used ≡ 0) }
+        ensures empty { (result.changed.rows.items ≡ []) × (result.saved.rows.items ≡ []) }
         ensures view { (files : ℕ → List ℕ) → Stored files sizes → view files result ≡ cleared files }
     {
         Memory {
@@ -38,7 +38,7 @@ impl Memory {
     pub fn clear(&mut self, sizes: [u32; 4])
         ensures count { self.new.count ≡ self.old.count }
         ensures sizes { self.new.sizes ≡ sizes }
-        ensures empty { (self.new.changed.used ≡ 0) × (self.new.saved.used ≡ 0) }
+        ensures empty { (self.new.changed.rows.items ≡ []) × (self.new.saved.rows.items ≡ []) }
         ensures view { (files : ℕ → List ℕ) → Stored files sizes → view files self.new ≡ cleared files }
     {
         *self = Memory::new(self.count, sizes);
@@ -107,7 +107,7 @@ impl Memory {
 
     /// How many pages are saved, by all savepoints.
     pub fn saved_count(&self) -> usize
-        ensures { result ≡ self.now.saved.used }
+        ensures { result ≡ length self.now.saved.rows.items }
     {
         self.saved.count()
     }

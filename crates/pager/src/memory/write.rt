@@ -1,5 +1,5 @@
 // Writing a page.
-ghost use Rattle.std.specs.Prelude.{◌≡◌, ℕ, ◌+◌, ◌<◌, ◌≤◌, Bool, true, false, cond, not, ◌&&◌, List, length as count_of, take, is_some, Some, None, Ok, Err, ◌==◌, ◌≢◌, nat_le, slice_index};
+ghost use Rattle.std.specs.Prelude.{◌≡◌, ℕ, ◌+◌, ◌<◌, ◌≤◌, Bool, true, false, cond, not, ◌&&◌, List, length as count_of, is_some, Some, None, Ok, Err, ◌==◌, ◌≢◌, nat_le, slice_index};
 ghost use Rattle.std.specs.Option.{option_map};
 ghost use Rattle.pager.specs.Changed.{look};
 ghost use Rattle.pager.specs.Machine.{written};
@@ -42,7 +42,7 @@ impl Memory {
 
     /// Whether 32 pages are saved, and one more is needed.
     fn lacks_saved_room(&self, database: usize, page: u32) -> bool
-        ensures { result ≡ (self.now.saved.used == 32 && to_save self.now database page) }
+        ensures { result ≡ (count_of self.now.saved.rows.items == 32 && to_save self.now database page) }
     {
         self.saved.is_full() && self.is_to_save(database, page)
     }
@@ -64,8 +64,8 @@ impl Memory {
     /// The saved pages once the page is about to be written.
     fn saved_first(&self, database: usize, page: u32, was: Was) -> SavedPages
         requires was { was ≡ was_of (look (fields self.now).changed database page) (nat_le page (slice_index self.now.sizes database)) }
-        requires room { self.now.saved.used ≡ 32 → to_save self.now database page ≡ false }
-        ensures { take result.used result.rows ≡ saved_first self.now database page }
+        requires room { count_of self.now.saved.rows.items ≡ 32 → to_save self.now database page ≡ false }
+        ensures { result.rows.items ≡ saved_first self.now database page }
     {
         let mut saved = self.saved;
         if self.is_to_save(database, page) {
@@ -108,7 +108,7 @@ impl Memory {
         ensures kept { (refused result ≢ None) → self.new ≡ self.old }
         ensures count { self.new.count ≡ self.old.count }
         ensures done { refused result ≡ None → (files : ℕ → List ℕ) → view files self.new ≡ written database page bytes.now (view files self.old) }
-        ensures used { refused result ≡ None → self.new.changed.used ≡ cond (map_of self.old.maps database page) self.old.changed.used (self.old.changed.used + 1) }
+        ensures used { refused result ≡ None → count_of self.new.changed.rows.items ≡ cond (map_of self.old.maps database page) (count_of self.old.changed.rows.items) (count_of self.old.changed.rows.items + 1) }
         ensures saved { refused result ≡ None → (fields self.new).saved ≡ saved_first self.old database page }
     {
         if let Some(refusal) = self.write_refusal(database, page, bytes.len()) {

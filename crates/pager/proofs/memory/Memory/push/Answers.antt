@@ -37,7 +37,7 @@ pub returns : goal.returns
 unfolding with_sizes
 returns c =
     let m = c.args.self.now in
-    let below = none_above m.maps m.changed.used (fields m).changed (fields m).saved m.levels m.sound in
+    let below = none_above m.maps (fields m).changed (fields m).saved m.levels m.sound in
     record {
       refusal = sym (cond-false _ _ _ (ne_eqb m.levels 8 (λ e. omega arith)));
       kept = λ some. absurd (some refl);

@@ -46,7 +46,7 @@ returns c =
     let is = sym c.stands.ensures ∙ c.if-not-stands.false in
     let low = leb-true 1 s (and_parts (leb 1 s) (leb s m.levels) is).0 in
     let high = leb-true s m.levels (and_parts (leb 1 s) (leb s m.levels) is).1 in
-    let below = none_above m.maps m.changed.used (fields m).changed (fields m).saved m.levels m.sound in
+    let below = none_above m.maps (fields m).changed (fields m).saved m.levels m.sound in
     let with : List SavedPage → Fields = λ l. record { sizes = m.sizes; maps = m.maps; changed = (fields m).changed; saved = l; level_sizes = m.level_sizes } in
     record {
       refusal = sym (cond-true _ _ _ is);

@@ -19,7 +19,7 @@ invariant_of-self c =
     let inside = ok.database in
     let wrote =
     wrote_from m d p c.args.bytes.now c.copy_from_slice.new.self c.max.result c.insert.new.self c.put.new.self c.saved_first-saved.result (omega arith) (omega arith) (page_is m d p ok.page) c.max.ensures c.insert.ensures c.put.ensures.look c.copy_from_slice.ensures.after c.saved_first-saved.ensures in
-    record { few = m.few; low = m.low; sound = ∥∥₁_map m.sound (sound_written (fields m) _ m.levels m.changed.used _ d p c.args.bytes.now wrote (omega arith) (page_is m d p ok.page) c.put.ensures.used) }
+    record { few = m.few; low = m.low; sound = ∥∥₁_map m.sound (sound_written (fields m) _ m.levels d p c.args.bytes.now wrote (omega arith) (page_is m d p ok.page) c.put.ensures.used) }
 
 pub returns : goal.returns
 returns c =
@@ -31,16 +31,16 @@ returns c =
     let inside = ok.database in
     let wrote =
     wrote_from m d p bytes c.copy_from_slice.new.self c.max.result c.insert.new.self c.put.new.self c.saved_first-saved.result (omega arith) (omega arith) (page_is m d p ok.page) c.max.ensures c.insert.ensures c.put.ensures.look c.copy_from_slice.ensures.after c.saved_first-saved.ensures in
-    let long = look_long m.changed.rows m.changed.used m.changed.whole in
-    let link = linked m.maps m.changed.used (fields m).changed (fields m).saved m.levels m.sound d p (omega arith) in
+    let long = look_long m.changed.rows.items m.changed.whole in
+    let link = linked m.maps (fields m).changed (fields m).saved m.levels m.sound d p (omega arith) in
     record {
       refusal = c.in_default.ensures;
       kept = λ some. absurd (some refl);
       count = refl;
       done = λ _ files.
-          let h = held_written files (fields m) _ m.levels d p bytes wrote (page_low m d p ok.page) (page_high m d p ok.page) ok.length long link in
-          let s = stack_written files (fields m) _ m.levels d p bytes wrote (page_low m d p ok.page) (page_high m d p ok.page) ok.length long link in
+          let h = held_written files (fields m) _ m.levels d p bytes wrote (page_low m d p ok.page) (page_high m d p ok.page) ok.whole long link in
+          let s = stack_written files (fields m) _ m.levels d p bytes wrote (page_low m d p ok.page) (page_high m d p ok.page) ok.whole long link in
           λ i. record { held = h i; savepoints = s i };
-      used = λ _. c.put.ensures.used ∙ ap (λ (b : Bool). cond b m.changed.used (m.changed.used + 1)) (sym link);
+      used = λ _. c.put.ensures.used ∙ ap (λ (b : Bool). cond b (length m.changed.rows.items) (length m.changed.rows.items + 1)) (sym link);
       saved = λ _. c.saved_first-saved.ensures;
     }
