@@ -119,7 +119,7 @@ more (row ∷ rows) f d p covers bad some = by (cases_Bool (is_row d p row)) (fe
 
 -- the store has as many rows as pages are changed
 pub changed_all : (m : Memory) → length m.changed.rows.items ≡ total (map_of m.maps) 4
-changed_all m = in_all m.maps (fields m).changed (fields m).saved m.levels m.sound
+changed_all m = in_all m
 
 module _ (m : Memory) (d : ℕ) (lt : d < 4) where
   -- a database has at most 32 changed pages
@@ -132,7 +132,7 @@ module _ (m : Memory) (d : ℕ) (lt : d < 4) where
   changed_page p in-it = by (cases_Bool (is_page p))
     where
       link : (e q : ℕ) → e < 4 → map_of m.maps e q ≡ is_some (look (fields m).changed e q)
-      link = linked m.maps (fields m).changed (fields m).saved m.levels m.sound
+      link = linked m
 
       by : (is_page p ≡ true) ⊎ (is_page p ≡ false) → is_page p ≡ true
       by (inl is) = is

@@ -82,8 +82,8 @@ pub wrote_from :
     ((e q : ℕ) → look changed.rows.items e q ≡ cond (eqb e d && eqb q p) (Some row) (look m.changed.rows.items e q)) →
     row ≡ bytes → saved.rows.items ≡ saved_first m d p →
     Wrote (fields m)
-    (record { sizes = set m.sizes d size; maps = set m.maps d map; changed = changed.rows.items; saved = saved.rows.items; level_sizes = m.level_sizes })
-    m.levels d p bytes
+    (record { sizes = set m.sizes d size; maps = set m.maps d map; changed = changed.rows.items; saved = saved.rows.items; level_sizes = m.levels.items })
+    (length m.levels.items) d p bytes
 unfolding map_of
 wrote_from m d p bytes row size map changed saved ls lm is larger mapped put same kept = record {
   size = get_or-set_same m.sizes d size 0 ls ∙ larger;
@@ -99,34 +99,37 @@ wrote_from m d p bytes row size map changed saved ls lm is larger mapped put sam
     rows = (fields m).saved
 
     new : SavedPage
-    new = record { level = m.levels; database = d; page = p; was = was_of (look (fields m).changed d p) (leb p (get_or m.sizes d 0)) }
+    new = record { level = (length m.levels.items); database = d; page = p; was = was_of (look (fields m).changed d p) (leb p (get_or m.sizes d 0)) }
 
-    had : (leb 1 m.levels ≡ false) ⊎ (not (has m.levels rows d p) ≡ false) → (m.levels ≡ 0) ⊎ (has m.levels rows d p ≡ true)
-    had (inl u) = let l = leb-false 1 m.levels u in inl (omega arith)
+    had : (leb 1 (length m.levels.items) ≡ false) ⊎ (not (has (length m.levels.items) rows d p) ≡ false) → ((length m.levels.items) ≡ 0) ⊎ (has (length m.levels.items) rows d p ≡ true)
+    had (inl u) = let l = leb-false 1 (length m.levels.items) u in inl (omega arith)
     had (inr u) = inr (not-false _ u)
 
-    by : (to_save m d p ≡ true) ⊎ (to_save m d p ≡ false) → (saved.rows.items ≡ rows ++ (new ∷ [])) ⊎ ((saved.rows.items ≡ rows) × ((m.levels ≡ 0) ⊎ (has m.levels rows d p ≡ true)))
+    by : (to_save m d p ≡ true) ⊎ (to_save m d p ≡ false) → (saved.rows.items ≡ rows ++ (new ∷ [])) ⊎ ((saved.rows.items ≡ rows) × (((length m.levels.items) ≡ 0) ⊎ (has (length m.levels.items) rows d p ≡ true)))
     by (inl t) = inl (kept ∙ cond-true _ _ _ t)
     by (inr u) = inr (kept ∙ cond-false _ _ _ u, had (and_cases _ _ u))
 
 -- what a sound memory keeps, one fact at a time
-pub linked : (maps : List PageMap) (changed : List ChangedPage) (saved : List SavedPage) (levels : ℕ) → ∥ Sound maps changed saved levels ∥₁ → (d p : ℕ) → d < 4 → map_of maps d p ≡ is_some (look changed d p)
-linked maps changed saved levels t d p lt = ∥∥₁_elim t (Bool-set _ _) (λ s. s.link d p lt)
+pub linked : (m : Memory) (d p : ℕ) → d < 4 → map_of m.maps d p ≡ is_some (look (fields m).changed d p)
+linked m d p lt = ∥∥₁_elim m.sound (Bool-set _ _) (λ s. s.link d p lt)
 
-pub in_all : (maps : List PageMap) (changed : List ChangedPage) (saved : List SavedPage) (levels : ℕ) → ∥ Sound maps changed saved levels ∥₁ → length changed ≡ total (map_of maps) 4
-in_all maps changed saved levels t = ∥∥₁_elim t (ℕ_set _ _) (λ s. s.all)
+pub in_all : (m : Memory) → length m.changed.rows.items ≡ total (map_of m.maps) 4
+in_all m = ∥∥₁_elim m.sound (ℕ_set _ _) (λ s. s.all)
+
+pub none_above : (m : Memory) (d p : ℕ) → has_from (suc (length m.levels.items)) (fields m).saved d p ≡ false
+none_above m d p = ∥∥₁_elim m.sound (Bool-set _ _) (λ s. s.below d p)
 
 -- a page that is not changed has room in the store
-pub room : (m : Memory) (d p long : ℕ) → m.count ≤ 4 → length m.changed.rows.items ≤ 32 → ∥ Sound m.maps (fields m).changed (fields m).saved m.levels ∥₁ → Allowed m d p long → is_some (look (fields m).changed d p) ≡ false → length m.changed.rows.items < 32
-room m d p long few most sound ok none = by (ℕ_discrete (length m.changed.rows.items) 32)
+pub room : (m : Memory) (d p long : ℕ) → m.count ≤ 4 → length m.changed.rows.items ≤ 32 → Allowed m d p long → is_some (look (fields m).changed d p) ≡ false → length m.changed.rows.items < 32
+room m d p long few most ok none = by (ℕ_discrete (length m.changed.rows.items) 32)
   where
     by : Dec (length m.changed.rows.items ≡ 32) → length m.changed.rows.items < 32
     by (no ne) = omega arith
     by (yes e) =
-        let out = linked m.maps (fields m).changed (fields m).saved m.levels sound d p (omega (arith, ok.database)) ∙ none in
-        absurd (both_ways _ ok.changed (and_from _ _ (eq-eqb (total (map_of m.maps) 4) 32 (sym (in_all m.maps (fields m).changed (fields m).saved m.levels sound) ∙ e)) (ap not out)))
+        let out = linked m d p (omega (arith, ok.database)) ∙ none in
+        absurd (both_ways _ ok.changed (and_from _ _ (eq-eqb (total (map_of m.maps) 4) 32 (sym (in_all m) ∙ e)) (ap not out)))
 
-pub saved_room : (m : Memory) (d p long : ℕ) → Allowed m d p long → (length m.saved.rows.items) ≡ 32 → to_save m d p ≡ false
+pub saved_room : (m : Memory) (d p long : ℕ) → Allowed m d p long → length m.saved.rows.items ≡ 32 → to_save m d p ≡ false
 saved_room m d p long ok e = by (and_cases _ _ ok.saved)
   where
     by : (eqb (length m.saved.rows.items) 32 ≡ false) ⊎ (to_save m d p ≡ false) → to_save m d p ≡ false
@@ -168,6 +171,3 @@ sound_written f g levels d p bytes wrote inside is grown sound = record { link =
         ap (λ (l : List SavedPage). has_from (suc levels) l e q) more ∙ from_end (suc levels) f.saved _ e q
         ∙ ap₂ (λ (a b : Bool). a || b) (sound.below e q) (and_left _ _ (lt-leb (suc levels) levels (omega arith)))
     below e q (inr same) = ap (λ (l : List SavedPage). has_from (suc levels) l e q) same.0 ∙ sound.below e q
-
-pub none_above : (maps : List PageMap) (changed : List ChangedPage) (saved : List SavedPage) (levels : ℕ) → ∥ Sound maps changed saved levels ∥₁ → (d p : ℕ) → has_from (suc levels) saved d p ≡ false
-none_above maps changed saved levels t d p = ∥∥₁_elim t (Bool-set _ _) (λ s. s.below d p)

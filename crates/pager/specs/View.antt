@@ -78,12 +78,12 @@ fields m = record {
   maps = m.maps;
   changed = m.changed.rows.items;
   saved = m.saved.rows.items;
-  level_sizes = m.level_sizes;
+  level_sizes = m.levels.items;
 }
 
 -- the machine
 abbrev pub view : (ℕ → Bytes) → Memory → Machine
-view files m = record { held = held_now files (fields m); savepoints = stack files (fields m) m.levels }
+view files m = record { held = held_now files (fields m); savepoints = stack files (fields m) (length m.levels.items) }
 
 -- the files hold so many whole pages
 abbrev pub Stored : (ℕ → Bytes) → List ℕ → Type 0
@@ -95,7 +95,7 @@ page_allowed m d p = nat_le 1 p && (nat_le p (slice_index m.sizes d + 1) && nat_
 
 -- the top savepoint has to save the page first
 abbrev pub to_save : Memory → ℕ → ℕ → Bool
-to_save m d p = nat_le 1 m.levels && not (has m.levels (fields m).saved d p)
+to_save m d p = nat_le 1 (length m.levels.items) && not (has (length m.levels.items) (fields m).saved d p)
 
 -- why a write is refused
 abbrev pub write_refusal : Memory → ℕ → ℕ → ℕ → Option Refusal
@@ -119,7 +119,7 @@ was_of None false = Absent
 abbrev pub saved_first : Memory → ℕ → ℕ → List SavedPage
 saved_first m d p =
     cond (to_save m d p)
-    ((fields m).saved ++ (record { level = m.levels; database = d; page = p; was = was_of (look (fields m).changed d p) (nat_le p (slice_index m.sizes d)) } ∷ []))
+    ((fields m).saved ++ (record { level = length m.levels.items; database = d; page = p; was = was_of (look (fields m).changed d p) (nat_le p (slice_index m.sizes d)) } ∷ []))
     (fields m).saved
 
 -- the refusal of an answer

@@ -12,7 +12,7 @@ pub const CHANGED_LIMIT: usize = 32;
 /// The changed pages of all databases, each once.
 #[derive(Clone, Copy)]
 pub struct ChangedPages {
-    rows: Few<ChangedPage, 32>,
+    rows: Few<ChangedPage, CHANGED_LIMIT>,
     ghost few: { length rows.items ≤ 32 },
     ghost whole: { Whole rows.items },
 }

@@ -22,7 +22,7 @@ fn passed(row: &SavedPage, s: usize) -> SavedPage
 /// The saved pages of all savepoints, in the order in which they were saved.
 #[derive(Clone, Copy)]
 pub struct SavedPages {
-    rows: Few<SavedPage, 32>,
+    rows: Few<SavedPage, SAVED_LIMIT>,
     ghost few: { length rows.items ≤ 32 },
 }
 

@@ -29,7 +29,7 @@ impl Memory {
     fn is_to_save(&self, database: usize, page: u32) -> bool
         ensures { result ≡ to_save self.now database page }
     {
-        self.levels >= 1 && !self.saved.has(self.levels, database, page)
+        self.levels.len() >= 1 && !self.saved.has(self.levels.len(), database, page)
     }
 
     /// Whether 32 pages are changed, and this one is not among them.
@@ -52,13 +52,11 @@ impl Memory {
         requires { database < 4 }
         ensures { result ≡ was_of (look (fields self.now).changed database page) (nat_le page (slice_index self.now.sizes database)) }
     {
-        if let Some(bytes) = self.changed.get(database, page) {
-            return Was::Changed(*bytes);
+        match self.changed.get(database, page) {
+            Some(bytes) => Was::Changed(*bytes),
+            None if page <= self.sizes[database] => Was::Unchanged,
+            None => Was::Absent,
         }
-        if page <= self.sizes[database] {
-            return Was::Unchanged;
-        }
-        Was::Absent
     }
 
     /// The saved pages once the page is about to be written.
@@ -70,7 +68,7 @@ impl Memory {
         let mut saved = self.saved;
         if self.is_to_save(database, page) {
             saved.push(SavedPage {
-                level: self.levels,
+                level: self.levels.len(),
                 database,
                 page,
                 was,
@@ -79,26 +77,24 @@ impl Memory {
         saved
     }
 
-    /// Why the write is refused, if it is.
-    fn write_refusal(&self, database: usize, page: u32, length: usize) -> Option<Refusal>
-        ensures { result ≡ write_refusal self.now database page length }
+    /// That the write is not refused.
+    fn admit(&self, database: usize, page: u32, length: usize) -> Result<(), Refusal>
+        ensures { refused result ≡ write_refusal self.now database page length }
     {
-        if database >= self.count {
-            return Some(Refusal::NoDatabase);
-        }
+        self.known(database)?;
         if length != PAGE_SIZE {
-            return Some(Refusal::BufferLength);
+            return Err(Refusal::BufferLength);
         }
         if !self.is_allowed(database, page) {
-            return Some(Refusal::Page);
+            return Err(Refusal::Page);
         }
         if self.lacks_changed_room(database, page) {
-            return Some(Refusal::ChangedFull);
+            return Err(Refusal::ChangedFull);
         }
         if self.lacks_saved_room(database, page) {
-            return Some(Refusal::SavedFull);
+            return Err(Refusal::SavedFull);
         }
-        None
+        Ok(())
     }
 
     /// Writes a page of a database: replaces it, or adds the one after its last. The top savepoint
@@ -111,18 +107,14 @@ impl Memory {
         ensures used { refused result ≡ None → count_of self.new.changed.rows.items ≡ cond (map_of self.old.maps database page) (count_of self.old.changed.rows.items) (count_of self.old.changed.rows.items + 1) }
         ensures saved { refused result ≡ None → (fields self.new).saved ≡ saved_first self.old database page }
     {
-        if let Some(refusal) = self.write_refusal(database, page, bytes.len()) {
-            return Err(refusal);
-        }
+        self.admit(database, page, bytes.len())?;
         let mut row = [0u8; PAGE_SIZE];
         row.copy_from_slice(bytes);
         let was = self.was(database, page);
         let saved = self.saved_first(database, page, was);
-        let mut map = self.maps[database];
-        map.insert(page);
         self.saved = saved;
         self.changed.put(database, page, row);
-        self.maps[database] = map;
+        self.maps[database].insert(page);
         self.sizes[database] = self.sizes[database].max(page);
         Ok(())
     }
