@@ -1,6 +1,7 @@
 -- A savepoint pushed, and savepoints released, as steps of the machine that the memory is.
 use Rattle.std.proofs.Common.{◌≡◌, ℕ, zero, suc, ◌+◌, ◌-◌, ◌<◌, ◌≤◌, Bool, true, false, ◌||◌, List, [], ◌∷◌, ◌++◌, length, get_or, take, drop, None, Option, sym, refl, ap, ◌∙◌, arith}
 use mathlib.Core.Path.{fun_ext}
+use Rattle.std.proofs.Math.Bool.{or-false}
 use Rattle.std.proofs.lemmas.List.{get_or_append_left, get_or-take}
 use Rattle.std.proofs.Math.Seq.{get_or-append_seam}
 use Rattle.std.proofs.lemmas.Bool.{or_parts}
@@ -11,7 +12,6 @@ use Rattle.pager.specs.Sound.{map_of}
 use Rattle.pager.specs.Machine.{saved_by, pass_down, no_pages}
 use Rattle.pager.specs.View.{Fields, file_page, joined, was_page, was_changed, page_now, held_now, held_at, stack}
 use Rattle.pager.proofs.Pages.{joined_same}
-use Rattle.pager.proofs.Views.{or_first}
 use Rattle.pager.proofs.Passes.{gathered_below, gathered_top, gathered_first, gathered_above, from_first, from_split}
 
 module _ (files : ℕ → Bytes) (f : Fields) where
@@ -104,7 +104,7 @@ module _ (files : ℕ → Bytes) (f : Fields) where
     }
 
     same_first : (k d p : ℕ) → 0 < k → k ≤ s - 1 → first k (gathered s [] f.saved) d p ≡ first k f.saved d p
-    unfolding first or_first
+    unfolding first
     same_first k d p some le = gathered_first s d p k [] f.saved some le
 
     held_passed : (k : ℕ) → 0 < k → k ≤ s - 1 → held_at files passed_fields k ≡ held_at files f k
@@ -130,11 +130,7 @@ module _ (files : ℕ → Bytes) (f : Fields) where
     top_saved k d p e =
         gathered_top s d p (suc k) [] f.saved (omega arith) e ∙ from_split (suc k) f.saved d p
         ∙ ap (λ (b : Bool). has (suc k) f.saved d p || b)
-        (saved_stack (levels + 1 - s) (suc k) levels d p (omega arith) ∙ ap (λ (b : Bool). saved_by (take (levels + 1 - s) (stack files f levels)) d p || b) (below d p) ∙ none (saved_by (take (levels + 1 - s) (stack files f levels)) d p))
-      where
-        none : (b : Bool) → (b || false) ≡ b
-        none true = refl
-        none false = refl
+        (saved_stack (levels + 1 - s) (suc k) levels d p (omega arith) ∙ ap (λ (b : Bool). saved_by (take (levels + 1 - s) (stack files f levels)) d p || b) (below d p) ∙ or-false (saved_by (take (levels + 1 - s) (stack files f levels)) d p))
 
     left : (k : ℕ) → k ≡ s - 1 → stack files passed_fields k ≡ pass_down (take (levels + 1 - s) (stack files f levels)) (stack files f k)
     unfolding stack pass_down passed_fields
