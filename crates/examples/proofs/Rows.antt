@@ -44,13 +44,13 @@ two : length (super_journal_bytes ((97 ∷ 45 ∷ 106 ∷ 111 ∷ 117 ∷ 114 �
 unfolding super_journal_bytes
 two = refl
 
-last : (m : Memory) (d : ℕ) → d < m.count → get_or m.sizes d 0 ≡ 4095 → m.changed.used < 32 → m.saved.used < 32 → write_refusal m d 4096 512 ≡ None
+last : (m : Memory) (d : ℕ) → d < m.count → get_or m.sizes d 0 ≡ 4095 → length m.changed.rows.items < 32 → length m.saved.rows.items < 32 → write_refusal m d 4096 512 ≡ None
 last m d there size few saved =
     let all = changed_all m in
     cond-true (ltb d m.count) _ _ (lt-ltb d m.count there)
     ∙ cond-true (page_allowed m d 4096) _ _ (and_from _ _ refl (and_from _ _ (le-leb 4096 (get_or m.sizes d 0 + 1) (omega arith)) refl))
     ∙ cond-false (eqb (changed_total (map_of m.maps) 4) 32 && not (map_of m.maps d 4096)) _ _ (and_left _ _ (ne_eqb (changed_total (map_of m.maps) 4) 32 (λ e. omega arith)))
-    ∙ cond-false (eqb m.saved.used 32 && to_save m d 4096) _ _ (and_left _ _ (ne_eqb m.saved.used 32 (λ e. omega arith)))
+    ∙ cond-false (eqb (length m.saved.rows.items) 32 && to_save m d 4096) _ _ (and_left _ _ (ne_eqb (length m.saved.rows.items) 32 (λ e. omega arith)))
 
 grown :
     (m n : Memory) (d : ℕ) (bytes : Bytes) → get_or m.sizes d 0 ≡ 4095 → length bytes ≡ 512 → ((files : ℕ → Bytes) → view files n ≡ written d 4096 bytes (view files m)) →

@@ -47,7 +47,7 @@ pub record Table : Type 0 where
   -- the super-journal of two databases
   pub two : length (super_journal_bytes (a_journal ∷ b_journal ∷ [])) ≡ 20
   -- a database of 4,095 pages takes page 4,096, if there is room for one more changed and one more saved page
-  pub last : (m : Memory) (d : ℕ) → d < m.count → slice_index m.sizes d ≡ 4095 → m.changed.used < 32 → m.saved.used < 32 → write_refusal m d 4096 512 ≡ None
+  pub last : (m : Memory) (d : ℕ) → d < m.count → slice_index m.sizes d ≡ 4095 → length m.changed.rows.items < 32 → length m.saved.rows.items < 32 → write_refusal m d 4096 512 ≡ None
   -- and has 4,096 pages then
   pub grown :
       (m n : Memory) (d : ℕ) (bytes : Bytes) → slice_index m.sizes d ≡ 4095 → length bytes ≡ 512 → ((files : ℕ → Bytes) → view files n ≡ written d 4096 bytes (view files m)) →

@@ -84,4 +84,11 @@ impl<T: Copy, const N: usize> Few<T, N> {
         let all = &mut self.rows[..];
         all[i] = value;
     }
+
+    /// Keeps the first so many values, and drops those behind them.
+    pub fn truncate(&mut self, n: usize)
+        ensures { self.new.items ≡ take n self.old.items }
+    {
+        self.used = self.used.min(n);
+    }
 }

@@ -1,7 +1,10 @@
 -- The pages of a map, counted word by word.
-use Rattle.std.proofs.Common.{◌≡◌, ℕ, zero, suc, ◌+◌, ◌*◌, ◌/◌, ◌%◌, ◌^◌, ◌<◌, ◌≤◌, eqb, ◌⊎◌, List, get_or, sym, ap, ◌∙◌, ap₂, inl, inr, add-zero, add_assoc, add-suc, mod-lt, mod-eq_of_lt, arith}
+use Rattle.std.proofs.Common.{◌≡◌, ℕ, zero, suc, ◌+◌, ◌*◌, ◌/◌, ◌%◌, ◌^◌, ◌<◌, ◌≤◌, eqb, ◌⊎◌, List, length, get_or, take, sym, refl, ap, ◌∙◌, ap₂, subst, inl, inr, add-zero, add-one, add_assoc, add-suc, mod-lt, mod-eq_of_lt, arith}
 use lib.Count.{ones, ones_cat}
-use Rattle.std.proofs.lemmas.Nat.{mod-pow-add, pow_pos}
+use Rattle.std.specs.List.{sum_by}
+use Rattle.std.proofs.lemmas.List.{take_all, get_or_default}
+use Rattle.std.proofs.lemmas.List.Sums.{sum_by_more, sum_by-le}
+use Rattle.std.proofs.lemmas.Nat.{mod-pow-add, pow_pos, ones-le}
 use Rattle.page_map.specs.Sets.{counted, one_if}
 use Rattle.page_map.specs.Words.{bit, pages_of}
 use Rattle.page_map.proofs.Digits.{bit_two}
@@ -48,3 +51,20 @@ part ws i (suc k) h =
 pub word_more : (ws : List ℕ) (i : ℕ) → get_or ws i 0 < 2 ^ 64 → counted (pages_of ws) ((i + 1) * 64) ≡ counted (pages_of ws) (i * 64) + ones (get_or ws i 0)
 word_more ws i h =
     ap (counted (pages_of ws)) (omega arith) ∙ part ws i 64 (omega arith) ∙ ap (λ (x : ℕ). counted (pages_of ws) (i * 64) + ones x) (mod-eq_of_lt h)
+
+-- the first n words
+words : (ws : List ℕ) (fit : (i : ℕ) → i < length ws → get_or ws i 0 < 2 ^ 64) (n : ℕ) → n ≤ length ws → counted (pages_of ws) (n * 64) ≡ sum_by ones (take n ws)
+unfolding counted
+words ws fit zero le = refl
+words ws fit (suc n) le =
+    ap (λ (k : ℕ). counted (pages_of ws) (k * 64)) (sym (add-one n)) ∙ word_more ws n (fit n (omega arith))
+    ∙ ap (λ (x : ℕ). x + ones (get_or ws n 0)) (words ws fit n (omega arith))
+    ∙ sym (sum_by_more ones ws n 0 (omega arith)) ∙ ap (λ (k : ℕ). sum_by ones (take k ws)) (add-one n)
+
+-- the pages of a map are the ones of its words, and no word has more than 64
+module _ (ws : List ℕ) (long : length ws ≡ 64) (fit : (i : ℕ) → i < length ws → get_or ws i 0 < 2 ^ 64) where
+  pub counted_words : sum_by ones ws ≡ counted (pages_of ws) 4096
+  counted_words = sym (words ws fit 64 (omega arith) ∙ ap (sum_by ones) (take_all 64 ws (omega arith)))
+
+  pub few_ones : sum_by ones ws ≤ 4096
+  few_ones = omega (arith, long, sum_by-le ones 64 ws (λ i d lt. ones-le 64 (get_or ws i d) (subst (λ (w : ℕ). w < 2 ^ 64) (get_or_default ws i 0 d lt) (fit i lt))))

@@ -1,8 +1,13 @@
 -- The least page above a given one, by the trailing zeros of the first word that is not zero.
-use Rattle.std.proofs.Common.{◌≡◌, ℕ, zero, suc, ◌+◌, ◌-◌, ◌*◌, ◌/◌, ◌%◌, ◌^◌, ◌<◌, ◌≤◌, false, List, length, get_or, sym, ap, ◌∙◌, subst, ⊎_elim, lt_of_lt_of_le, arith, pow_mono, shr_lt}
+use Rattle.std.proofs.Common.{◌≡◌, ℕ, zero, suc, ◌+◌, ◌-◌, ◌*◌, ◌/◌, ◌%◌, ◌^◌, ◌<◌, ◌≤◌, Bool, true, false, not, eqb, ltb, ◌⊎◌, List, length, get_or, take, drop, Some, None, sym, ap, ◌∙◌, subst, inl, inr, ⊎_elim, lt_of_lt_of_le, arith, pow_mono, shr_lt, length-drop, length-take-le}
 use lib.Count.{count_trailing_zeros}
+use Rattle.std.specs.List.{position, position_or_len}
+use Rattle.std.proofs.lemmas.List.{get_or-take, get_or-drop}
+use Rattle.std.proofs.lemmas.List.Quantifiers.{position-Some}
+use Rattle.std.proofs.lemmas.List.Sums.{fails_before_first}
+use Rattle.std.proofs.lemmas.Option.{none-some}
 use Rattle.std.proofs.lemmas.Nat.{mod_below, div-add-mod'}
-use Rattle.std.proofs.lemmas.Bool.{cases_lt}
+use Rattle.std.proofs.lemmas.Bool.{cases_lt, cases_Bool, cond-true, eqb-true, eq-eqb, ltb-false, not-false, both_ways}
 use Rattle.page_map.specs.Sets.{NoneAbove, NextAbove}
 use Rattle.page_map.specs.Words.{bit, digit, pages_of}
 use Rattle.page_map.proofs.Digits.{bit_shr, bit_zero, bit_within, lowest}
@@ -84,3 +89,39 @@ module _ (ws : List ℕ) (p : ℕ) where
       let e : i * 64 + 64 ≡ (i + 1) * 64 = omega arith in
       let P : ℕ → Type 0 = λ n. Clear ws p n in
       subst P e (clear_word ws p i 64 before (omega arith) (λ j _. ap (λ (x : ℕ). bit x j) z ∙ bit_zero j))
+
+  -- over words of zeros
+  pub clear_to : (i : ℕ) → Clear ws p (i * 64) → (k : ℕ) → ((j : ℕ) → j < k → get_or ws (i + j) 0 ≡ 0) → Clear ws p ((i + k) * 64)
+  clear_to i before zero zeros = let e : i * 64 ≡ (i + 0) * 64 = omega arith in subst (λ (n : ℕ). Clear ws p n) e before
+  clear_to i before (suc k) zeros =
+      let e : (i + k + 1) * 64 ≡ (i + suc k) * 64 = omega arith in
+      subst (λ (n : ℕ). Clear ws p n) e (clear_next (i + k) (clear_to i before k (λ j lt. zeros j (omega arith))) (zeros k (omega arith)))
+
+  -- the words from n on, and the first of them that is not zero
+  module _ (n : ℕ) (long : length ws ≡ 64) (rest : List ℕ) (is : rest ≡ take (64 - n) (drop n ws)) where
+    is_set : ℕ → Bool
+    is_set w = not (eqb w 0)
+
+    at_rest : (j : ℕ) → n + j < 64 → get_or rest j 0 ≡ get_or ws (n + j) 0
+    at_rest j lt = ap (λ (l : List ℕ). get_or l j 0) is ∙ get_or-take (64 - n) (drop n ws) j 0 (omega arith) ∙ get_or-drop n ws j 0
+
+    length_rest : length rest ≡ 64 - n
+    length_rest = ap length is ∙ length-take-le (64 - n) (drop n ws) (omega (arith, length-drop n ws))
+
+    pub rest_none : position (λ w. not (eqb w 0)) rest ≡ None → (j : ℕ) → n + j < 64 → get_or ws (n + j) 0 ≡ 0
+    unfolding is_set
+    rest_none none j lt = sym (at_rest j lt) ∙ eqb-true (get_or rest j 0) 0 (not-false _ (fails_before_first is_set rest j 0 (by (cases_Bool (ltb (position_or_len is_set rest) (length rest))))))
+      where
+        by : (ltb (position_or_len is_set rest) (length rest) ≡ true) ⊎ (ltb (position_or_len is_set rest) (length rest) ≡ false) → j < position_or_len is_set rest
+        by (inl t) = absurd (none-some _ (sym none ∙ cond-true _ _ _ t))
+        by (inr u) = omega (arith, length_rest, ltb-false _ _ u)
+
+    pub rest_some : (j : ℕ) → position (λ w. not (eqb w 0)) rest ≡ Some j → (n + j < 64) × (get_or ws (n + j) 0 ≡ 0 → ⊥) × ((k : ℕ) → k < j → get_or ws (n + k) 0 ≡ 0)
+    unfolding is_set
+    rest_some j some = (within, λ e. both_ways _ (ap not (eq-eqb (get_or rest j 0) 0 (at_rest j within ∙ e))) found.1, λ k lt. sym (at_rest k (omega (arith, within))) ∙ eqb-true (get_or rest k 0) 0 (not-false _ (found.2 k lt)))
+      where
+        found : (j < length rest) × (is_set (get_or rest j 0) ≡ true) × ((k : ℕ) → k < j → is_set (get_or rest k 0) ≡ false)
+        found = position-Some is_set rest j 0 some
+
+        within : n + j < 64
+        within = omega (arith, found.0, length_rest)

@@ -1,7 +1,7 @@
 // A set of pages as a map of 4,096 bits.
 #![tactic(auto)]
 
-ghost use Rattle.std.specs.Prelude.{◌≡◌, ℕ, false, if◌then◌else◌, MatchOption};
+ghost use Rattle.std.specs.Prelude.{◌≡◌, ℕ, false, length, if◌then◌else◌, MatchOption};
 ghost use Rattle.page_map.specs.Sets.{is_page, including, without, counted, NoneAbove, NextAbove, VisitLaw};
 ghost use Rattle.page_map.specs.Words.{pages_of};
 
@@ -9,7 +9,7 @@ ghost use Rattle.page_map.specs.Words.{pages_of};
 pub const PAGE_LIMIT: u32 = 4096;
 
 /// The words of a map.
-const WORDS: u32 = 64;
+const WORDS: usize = 64;
 
 /// The bits of a word.
 const BITS: u32 = 64;
@@ -18,13 +18,21 @@ const BITS: u32 = 64;
 pub fn is_page(page: u32) -> bool
     ensures { result ≡ is_page page }
 {
-    page >= 1 && page <= PAGE_LIMIT
+    (1..=PAGE_LIMIT).contains(&page)
+}
+
+/// How many bits of a map's words are 1.
+fn ones(words: &[u64]) -> u32
+    requires { length words.now ≡ 64 }
+    ensures { result ≡ counted (pages_of words.now) 4096 }
+{
+    words.iter().map(|w| w.count_ones()).sum()
 }
 
 /// A set of pages: page 1 is the lowest bit of the first word.
 #[derive(Clone, Copy)]
 pub struct PageMap {
-    words: [u64; 64],
+    words: [u64; WORDS],
 }
 
 impl PageMap {
@@ -32,7 +40,7 @@ impl PageMap {
     pub fn new() -> PageMap
         ensures { (q : ℕ) → pages_of result.words q ≡ false }
     {
-        PageMap { words: [0; 64] }
+        PageMap { words: [0; WORDS] }
     }
 
     /// Whether the page is in.
@@ -70,11 +78,7 @@ impl PageMap {
     pub fn count(&self) -> u32
         ensures { result ≡ counted (pages_of self.now.words) 4096 }
     {
-        let mut n = 0;
-        for i in 0..WORDS {
-            n += self.words[i as usize].count_ones();
-        }
-        n
+        ones(&self.words)
     }
 
     /// The least page above this one that is in. Asked from 0 on, and then from each answer, it
@@ -86,24 +90,19 @@ impl PageMap {
         if page >= PAGE_LIMIT {
             return None;
         }
-        let i = page / BITS;
-        let first = self.words[i as usize] >> (page % BITS);
+        let i = (page / BITS) as usize;
+        let first = self.words[i] >> (page % BITS);
         if first != 0 {
             return Some(page + first.trailing_zeros() + 1);
         }
-        for j in i + 1..WORDS {
-            let w = self.words[j as usize];
-            if w != 0 {
-                return Some(j * BITS + w.trailing_zeros() + 1);
-            }
-        }
-        None
+        let j = i + 1 + self.words[i + 1..].iter().position(|w| *w != 0)?;
+        Some(j as u32 * BITS + self.words[j].trailing_zeros() + 1)
     }
 
     /// Takes every page out.
     pub fn clear(&mut self)
         ensures { (q : ℕ) → pages_of self.new.words q ≡ false }
     {
-        self.words = [0; 64];
+        self.words = [0; WORDS];
     }
 }

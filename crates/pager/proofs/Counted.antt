@@ -1,6 +1,7 @@
 -- What the invariant of a memory tells a caller of the changed pages: a database has at most 32, and
 -- each of them is a page that a database can have.
-use Rattle.std.proofs.Common.{◌≡◌, ℕ, suc, ◌+◌, ◌<◌, ◌≤◌, true, false, cond, eqb, leb, ◌⊎◌, List, [], ◌∷◌, length, is_some, sym, refl, ap, ◌∙◌, ap₂, inl, inr, arith, length-take}
+use Rattle.std.proofs.Common.{◌≡◌, ℕ, suc, ◌+◌, ◌<◌, ◌≤◌, true, false, cond, eqb, leb, Bool, ◌⊎◌, List, [], ◌∷◌, length, is_some, find, Some, sym, refl, ap, ◌∙◌, ap₂, inl, inr, arith}
+use Rattle.std.specs.Option.{option_map}
 use native.Mathlib.Decide.{ℕ_discrete, dec_lt}
 use Rattle.std.proofs.lemmas.Bool.{cases_Bool, cond-true, cond-false, eqb-true, eq-eqb, ne_eqb, leb-true, and_parts, and_left, and_right, both_ways}
 use Rattle.page_map.specs.Sets.{PageSet, is_page, without, including, counted, total}
@@ -31,7 +32,7 @@ apart row d p ne = by (ℕ_discrete row.database d) (ℕ_discrete row.page p)
 -- what does not stand in the first row stands in the others
 later : (row : ChangedPage) (rows : List ChangedPage) (d p : ℕ) → is_row d p row ≡ false → is_some (look (row ∷ rows) d p) ≡ true → is_some (look rows d p) ≡ true
 unfolding look
-later row rows d p out some = sym (ap is_some (cond-false _ _ _ out)) ∙ some
+later row rows d p out some = sym (ap (λ (b : Bool). is_some (option_map (λ (r : ChangedPage). r.bytes) (cond b (Some row) (find (is_row d p) rows)))) out) ∙ some
 
 taken_in : (f : ℕ → PageSet) (e r d p : ℕ) → taken f e r d p ≡ true → (f d p ≡ true) × (e ≡ d → r ≡ p → ⊥)
 taken_in f e r d p is = by (ℕ_discrete d e) (ℕ_discrete p r)
@@ -116,9 +117,9 @@ more (row ∷ rows) f d p covers bad some = by (cases_Bool (is_row d p row)) (fe
     by (inr out) (inl same) earlier = omega (arith, earlier f same bad (later row rows d p out some))
     by (inr out) (inr (g, (less, one))) earlier = omega (arith, earlier g less bad (later row rows d p out some))
 
--- the store has as many rows in use as pages are changed
-pub changed_all : (m : Memory) → m.changed.used ≡ total (map_of m.maps) 4
-changed_all m = in_all m.maps m.changed.used (fields m).changed (fields m).saved m.levels m.sound
+-- the store has as many rows as pages are changed
+pub changed_all : (m : Memory) → length m.changed.rows.items ≡ total (map_of m.maps) 4
+changed_all m = in_all m
 
 module _ (m : Memory) (d : ℕ) (lt : d < 4) where
   -- a database has at most 32 changed pages
@@ -131,7 +132,7 @@ module _ (m : Memory) (d : ℕ) (lt : d < 4) where
   changed_page p in-it = by (cases_Bool (is_page p))
     where
       link : (e q : ℕ) → e < 4 → map_of m.maps e q ≡ is_some (look (fields m).changed e q)
-      link = linked m.maps m.changed.used (fields m).changed (fields m).saved m.levels m.sound
+      link = linked m
 
       by : (is_page p ≡ true) ⊎ (is_page p ≡ false) → is_page p ≡ true
       by (inl is) = is
@@ -141,7 +142,6 @@ module _ (m : Memory) (d : ℕ) (lt : d < 4) where
             arith,
             more (fields m).changed (map_of m.maps) d p (λ e q low _ t. sym (link e q low) ∙ t) bad (sym (link d p lt) ∙ in-it),
             changed_all m,
-            length-take m.changed.used m.changed.rows,
           ))
 
   pub changed_low : (p : ℕ) → map_of m.maps d p ≡ true → 1 ≤ p

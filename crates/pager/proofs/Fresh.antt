@@ -48,7 +48,7 @@ maps_empty map none d p = by (cases_lt d 4)
     by (inr ge) = ap (λ (m : PageMap). pages_of m.words p) (get_or_past (replicate 4 map) d (record { words = [] }) (omega (arith, length-replicate 4 map))) ∙ no_words p
 
 module _ (maps : List PageMap) (empty : (d p : ℕ) → map_of maps d p ≡ false) where
-  pub sound_fresh : Sound maps 0 [] [] 0
+  pub sound_fresh : Sound maps [] [] 0
   unfolding look has_from
   sound_fresh = record { link = λ d p lt. empty d p; all = sym (total_none (map_of maps) 4 empty); below = λ d p. refl }
 

@@ -1,5 +1,7 @@
 -- What a write does to the fields, and that the fields stay sound.
-use Rattle.std.proofs.Common.{◌≡◌, ℕ, zero, suc, ◌+◌, ◌<◌, ◌≤◌, max, Bool, true, false, cond, not, ◌&&◌, ◌||◌, eqb, ltb, leb, ◌⊎◌, List, [], ◌∷◌, ◌++◌, length, get_or, take, set, is_some, Some, None, Option, sym, refl, ap, ◌∙◌, ap₂, inl, inr, arith}
+use Rattle.std.proofs.Common.{◌≡◌, ℕ, zero, suc, ◌+◌, ◌<◌, ◌≤◌, max, Bool, true, false, cond, not, ◌&&◌, ◌||◌, eqb, ltb, leb, ◌⊎◌, List, [], ◌∷◌, ◌++◌, length, get_or, take, set, is_some, find, Some, None, Option, sym, refl, ap, ◌∙◌, ap₂, inl, inr, arith}
+use Rattle.std.specs.Option.{option_map}
+use Rattle.std.proofs.lemmas.Option.{none-some}
 use mathlib.Core.Bool.{Bool-set}
 use mathlib.Core.Logic.{∥∥₁_elim}
 use native.Mathlib.Nat.{ℕ_set}
@@ -21,19 +23,20 @@ use Rattle.pager.specs.Changed.{look, Whole, is_row}
 use Rattle.pager.specs.Saved.{is_saved, has, has_from}
 use Rattle.pager.specs.Sound.{Sound, map_of}
 use Rattle.pager.specs.View.{Fields, fields, page_allowed, to_save, write_refusal, was_of, saved_first}
+use Rattle.pager.proofs.Saves.{from_end}
 use Rattle.pager.proofs.Views.{Wrote}
 use Rattle.page_map.proofs.Totals.{total_with}
 
 -- the tests of a write that is not refused
 pub record Allowed (m : Memory) (d p long : ℕ) : Type 0 where
   pub database : d < m.count
-  pub length : long ≡ 512
+  pub whole : long ≡ 512
   pub page : page_allowed m d p ≡ true
   pub changed : (eqb (total (map_of m.maps) 4) 32 && not (map_of m.maps d p)) ≡ false
-  pub saved : (eqb m.saved.used 32 && to_save m d p) ≡ false
+  pub saved : (eqb (length m.saved.rows.items) 32 && to_save m d p) ≡ false
 
 pub some_none : {X : Type 0} (x : X) → Some x ≡ None → ⊥
-some_none x e = let z : ◌≡◌ {A = ℕ} 0 1 = cc in omega arith
+some_none x e = none-some x (sym e)
 
 pass : (b : Bool) (x : Option Refusal) (r : Refusal) → cond b x (Some r) ≡ None → (b ≡ true) × (x ≡ None)
 pass true x r e = (refl, e)
@@ -49,8 +52,8 @@ allowed m d p long none =
     let b = pass (eqb long 512) _ BufferLength a.1 in
     let c = pass (page_allowed m d p) _ Page b.1 in
     let e = pass_not (eqb (total (map_of m.maps) 4) 32 && not (map_of m.maps d p)) _ ChangedFull c.1 in
-    let f = pass_not (eqb m.saved.used 32 && to_save m d p) _ SavedFull e.1 in
-    record { database = ltb-true d m.count a.0; length = eqb-true long 512 b.0; page = c.0; changed = e.0; saved = f.0 }
+    let f = pass_not (eqb (length m.saved.rows.items) 32 && to_save m d p) _ SavedFull e.1 in
+    record { database = ltb-true d m.count a.0; whole = eqb-true long 512 b.0; page = c.0; changed = e.0; saved = f.0 }
 
 pub page_low : (m : Memory) (d p : ℕ) → page_allowed m d p ≡ true → 0 < p
 page_low m d p is = omega (arith, leb-true 1 p (and_parts _ _ is).0)
@@ -64,13 +67,12 @@ page_is m d p is =
     and_from (leb 1 p) (leb p 4096) rest.0 (and_parts (leb p (get_or m.sizes d 0 + 1)) (leb p 4096) rest.1).1
 
 -- a page among the changed ones has 512 bytes
-pub look_long : (rows : List ChangedPage) (n : ℕ) → Whole rows n → (d p : ℕ) (b : Bytes) → look (take n rows) d p ≡ Some b → length b ≡ 512
+pub look_long : (rows : List ChangedPage) → Whole rows → (d p : ℕ) (b : Bytes) → look rows d p ≡ Some b → length b ≡ 512
 unfolding look
-look_long rows zero whole d p b e = absurd (some_none b (sym e))
-look_long [] (suc n) whole d p b e = absurd (some_none b (sym e))
-look_long (row ∷ rows) (suc n) whole d p b e = by (is_row d p row) (whole 0 (omega arith)) (look_long rows n (λ i lt. whole (suc i) (omega arith)) d p b) e
+look_long [] whole d p b e = absurd (some_none b (sym e))
+look_long (row ∷ rows) whole d p b e = by (is_row d p row) (whole 0 row (omega arith)) (look_long rows (λ i x lt. whole (suc i) x (omega arith)) d p b) e
   where
-    by : (t : Bool) → length row.bytes ≡ 512 → (look (take n rows) d p ≡ Some b → length b ≡ 512) → cond t (Some row.bytes) (look (take n rows) d p) ≡ Some b → length b ≡ 512
+    by : (t : Bool) → length row.bytes ≡ 512 → (look rows d p ≡ Some b → length b ≡ 512) → option_map (λ (r : ChangedPage). r.bytes) (cond t (Some row) (find (is_row d p) rows)) ≡ Some b → length b ≡ 512
     by true long later is = let s : row.bytes ≡ b = cc in ap length (sym s) ∙ long
     by false long later is = later is
 
@@ -78,18 +80,18 @@ pub wrote_from :
     (m : Memory) (d p : ℕ) (bytes row : Bytes) (size : ℕ) (map : PageMap) (changed : ChangedPages) (saved : SavedPages) →
     d < length m.sizes → d < length m.maps → is_page p ≡ true → size ≡ max (get_or m.sizes d 0) p →
     ((q : ℕ) → pages_of map.words q ≡ cond (is_page p) (including (pages_of (get_or m.maps d (record { words = [] })).words) p q) (pages_of (get_or m.maps d (record { words = [] })).words q)) →
-    ((e q : ℕ) → look (take changed.used changed.rows) e q ≡ cond (eqb e d && eqb q p) (Some row) (look (take m.changed.used m.changed.rows) e q)) →
-    row ≡ bytes → take saved.used saved.rows ≡ saved_first m d p →
+    ((e q : ℕ) → look changed.rows.items e q ≡ cond (eqb e d && eqb q p) (Some row) (look m.changed.rows.items e q)) →
+    row ≡ bytes → saved.rows.items ≡ saved_first m d p →
     Wrote (fields m)
-    (record { sizes = set m.sizes d size; maps = set m.maps d map; changed = take changed.used changed.rows; saved = take saved.used saved.rows; level_sizes = m.level_sizes })
-    m.levels d p bytes
+    (record { sizes = set m.sizes d size; maps = set m.maps d map; changed = changed.rows.items; saved = saved.rows.items; level_sizes = m.levels.items })
+    (length m.levels.items) d p bytes
 unfolding map_of
 wrote_from m d p bytes row size map changed saved ls lm is larger mapped put same kept = record {
   size = get_or-set_same m.sizes d size 0 ls ∙ larger;
   sizes = λ k ne. get_or-set_other m.sizes d k size 0 ne;
   map = λ q. ap (λ (x : PageMap). pages_of x.words q) (get_or-set_same m.maps d map (record { words = [] }) lm) ∙ mapped q ∙ cond-true _ _ _ is;
   maps = λ k ne. ap (λ (x : PageMap). pages_of x.words) (get_or-set_other m.maps d k map (record { words = [] }) ne);
-  pages = λ e q. put e q ∙ ap (λ (b : Bytes). cond (eqb e d && eqb q p) (Some b) (look (take m.changed.used m.changed.rows) e q)) same;
+  pages = λ e q. put e q ∙ ap (λ (b : Bytes). cond (eqb e d && eqb q p) (Some b) (look m.changed.rows.items e q)) same;
   level_sizes = refl;
   saved = by (cases_Bool (to_save m d p));
 }
@@ -98,58 +100,48 @@ wrote_from m d p bytes row size map changed saved ls lm is larger mapped put sam
     rows = (fields m).saved
 
     new : SavedPage
-    new = record { level = m.levels; database = d; page = p; was = was_of (look (fields m).changed d p) (leb p (get_or m.sizes d 0)) }
+    new = record { level = (length m.levels.items); database = d; page = p; was = was_of (look (fields m).changed d p) (leb p (get_or m.sizes d 0)) }
 
-    had : (leb 1 m.levels ≡ false) ⊎ (not (has m.levels rows d p) ≡ false) → (m.levels ≡ 0) ⊎ (has m.levels rows d p ≡ true)
-    had (inl u) = let l = leb-false 1 m.levels u in inl (omega arith)
+    had : (leb 1 (length m.levels.items) ≡ false) ⊎ (not (has (length m.levels.items) rows d p) ≡ false) → ((length m.levels.items) ≡ 0) ⊎ (has (length m.levels.items) rows d p ≡ true)
+    had (inl u) = let l = leb-false 1 (length m.levels.items) u in inl (omega arith)
     had (inr u) = inr (not-false _ u)
 
-    by : (to_save m d p ≡ true) ⊎ (to_save m d p ≡ false) → (take saved.used saved.rows ≡ rows ++ (new ∷ [])) ⊎ ((take saved.used saved.rows ≡ rows) × ((m.levels ≡ 0) ⊎ (has m.levels rows d p ≡ true)))
+    by : (to_save m d p ≡ true) ⊎ (to_save m d p ≡ false) → (saved.rows.items ≡ rows ++ (new ∷ [])) ⊎ ((saved.rows.items ≡ rows) × (((length m.levels.items) ≡ 0) ⊎ (has (length m.levels.items) rows d p ≡ true)))
     by (inl t) = inl (kept ∙ cond-true _ _ _ t)
     by (inr u) = inr (kept ∙ cond-false _ _ _ u, had (and_cases _ _ u))
 
 -- what a sound memory keeps, one fact at a time
-pub linked : (maps : List PageMap) (used : ℕ) (changed : List ChangedPage) (saved : List SavedPage) (levels : ℕ) → ∥ Sound maps used changed saved levels ∥₁ → (d p : ℕ) → d < 4 → map_of maps d p ≡ is_some (look changed d p)
-linked maps used changed saved levels t d p lt = ∥∥₁_elim t (Bool-set _ _) (λ s. s.link d p lt)
+pub linked : (m : Memory) (d p : ℕ) → d < 4 → map_of m.maps d p ≡ is_some (look (fields m).changed d p)
+linked m d p lt = ∥∥₁_elim m.sound (Bool-set _ _) (λ s. s.link d p lt)
 
-pub in_all : (maps : List PageMap) (used : ℕ) (changed : List ChangedPage) (saved : List SavedPage) (levels : ℕ) → ∥ Sound maps used changed saved levels ∥₁ → used ≡ total (map_of maps) 4
-in_all maps used changed saved levels t = ∥∥₁_elim t (ℕ_set _ _) (λ s. s.all)
+pub in_all : (m : Memory) → length m.changed.rows.items ≡ total (map_of m.maps) 4
+in_all m = ∥∥₁_elim m.sound (ℕ_set _ _) (λ s. s.all)
+
+pub none_above : (m : Memory) (d p : ℕ) → has_from (suc (length m.levels.items)) (fields m).saved d p ≡ false
+none_above m d p = ∥∥₁_elim m.sound (Bool-set _ _) (λ s. s.below d p)
 
 -- a page that is not changed has room in the store
-pub room : (m : Memory) (d p long : ℕ) → m.count ≤ 4 → m.changed.used ≤ 32 → ∥ Sound m.maps m.changed.used (fields m).changed (fields m).saved m.levels ∥₁ → Allowed m d p long → is_some (look (fields m).changed d p) ≡ false → m.changed.used < 32
-room m d p long few most sound ok none = by (ℕ_discrete m.changed.used 32)
+pub room : (m : Memory) (d p long : ℕ) → m.count ≤ 4 → length m.changed.rows.items ≤ 32 → Allowed m d p long → is_some (look (fields m).changed d p) ≡ false → length m.changed.rows.items < 32
+room m d p long few most ok none = by (ℕ_discrete (length m.changed.rows.items) 32)
   where
-    by : Dec (m.changed.used ≡ 32) → m.changed.used < 32
+    by : Dec (length m.changed.rows.items ≡ 32) → length m.changed.rows.items < 32
     by (no ne) = omega arith
     by (yes e) =
-        let out = linked m.maps m.changed.used (fields m).changed (fields m).saved m.levels sound d p (omega (arith, ok.database)) ∙ none in
-        absurd (both_ways _ ok.changed (and_from _ _ (eq-eqb (total (map_of m.maps) 4) 32 (sym (in_all m.maps m.changed.used (fields m).changed (fields m).saved m.levels sound) ∙ e)) (ap not out)))
+        let out = linked m d p (omega (arith, ok.database)) ∙ none in
+        absurd (both_ways _ ok.changed (and_from _ _ (eq-eqb (total (map_of m.maps) 4) 32 (sym (in_all m) ∙ e)) (ap not out)))
 
-pub saved_room : (m : Memory) (d p long : ℕ) → Allowed m d p long → m.saved.used ≡ 32 → to_save m d p ≡ false
+pub saved_room : (m : Memory) (d p long : ℕ) → Allowed m d p long → length m.saved.rows.items ≡ 32 → to_save m d p ≡ false
 saved_room m d p long ok e = by (and_cases _ _ ok.saved)
   where
-    by : (eqb m.saved.used 32 ≡ false) ⊎ (to_save m d p ≡ false) → to_save m d p ≡ false
-    by (inl u) = absurd (both_ways _ u (eq-eqb m.saved.used 32 e))
+    by : (eqb (length m.saved.rows.items) 32 ≡ false) ⊎ (to_save m d p ≡ false) → to_save m d p ≡ false
+    by (inl u) = absurd (both_ways _ u (eq-eqb (length m.saved.rows.items) 32 e))
     by (inr u) = u
-
-pub from_end : (k : ℕ) (rows : List SavedPage) (row : SavedPage) (d p : ℕ) → has_from k (rows ++ (row ∷ [])) d p ≡ (has_from k rows d p || (leb k row.level && is_saved d p row))
-unfolding has_from
-from_end k [] row d p = or_none (leb k row.level && is_saved d p row)
-  where
-    or_none : (b : Bool) → (b || false) ≡ b
-    or_none true = refl
-    or_none false = refl
-from_end k (r ∷ rows) row d p = by (leb k r.level && is_saved d p r) (from_end k rows row d p)
-  where
-    by : (b : Bool) → has_from k (rows ++ (row ∷ [])) d p ≡ (has_from k rows d p || (leb k row.level && is_saved d p row)) → (b || has_from k (rows ++ (row ∷ [])) d p) ≡ ((b || has_from k rows d p) || (leb k row.level && is_saved d p row))
-    by true e = refl
-    by false e = e
 
 -- a sound memory stays sound over a write
 pub sound_written :
-    (f g : Fields) (levels used more d p : ℕ) (bytes : Bytes) → Wrote f g levels d p bytes → d < 4 → is_page p ≡ true → more ≡ cond (is_some (look f.changed d p)) used (used + 1) →
-    Sound f.maps used f.changed f.saved levels → Sound g.maps more g.changed g.saved levels
-sound_written f g levels used more d p bytes wrote inside is grown sound = record { link = link; all = all; below = λ e q. below e q wrote.saved }
+    (f g : Fields) (levels d p : ℕ) (bytes : Bytes) → Wrote f g levels d p bytes → d < 4 → is_page p ≡ true → length g.changed ≡ cond (is_some (look f.changed d p)) (length f.changed) (length f.changed + 1) →
+    Sound f.maps f.changed f.saved levels → Sound g.maps g.changed g.saved levels
+sound_written f g levels d p bytes wrote inside is grown sound = record { link = link; all = all; below = λ e q. below e q wrote.saved }
   where
     link : (e q : ℕ) → e < 4 → map_of g.maps e q ≡ is_some (look g.changed e q)
     link e q lt = by (ℕ_discrete e d) (ℕ_discrete q p)
@@ -167,9 +159,9 @@ sound_written f g levels used more d p bytes wrote inside is grown sound = recor
         by (no a) w =
             ap (λ (s : PageSet). s q) (wrote.maps e a) ∙ sound.link e q lt ∙ sym (ap is_some (far (and_left _ _ (ne_eqb e d a))))
 
-    all : more ≡ total (map_of g.maps) 4
+    all : length g.changed ≡ total (map_of g.maps) 4
     all =
-        grown ∙ ap (λ (b : Bool). cond b used (used + 1)) (sym (sound.link d p inside)) ∙ ap (λ (n : ℕ). cond (map_of f.maps d p) n (n + 1)) sound.all
+        grown ∙ ap (λ (b : Bool). cond b (length f.changed) (length f.changed + 1)) (sym (sound.link d p inside)) ∙ ap (λ (n : ℕ). cond (map_of f.maps d p) n (n + 1)) sound.all
         ∙ sym (total_with (map_of f.maps) (map_of g.maps) d p is wrote.map wrote.maps 4 inside)
 
     below :
@@ -180,6 +172,3 @@ sound_written f g levels used more d p bytes wrote inside is grown sound = recor
         ap (λ (l : List SavedPage). has_from (suc levels) l e q) more ∙ from_end (suc levels) f.saved _ e q
         ∙ ap₂ (λ (a b : Bool). a || b) (sound.below e q) (and_left _ _ (lt-leb (suc levels) levels (omega arith)))
     below e q (inr same) = ap (λ (l : List SavedPage). has_from (suc levels) l e q) same.0 ∙ sound.below e q
-
-pub none_above : (maps : List PageMap) (used : ℕ) (changed : List ChangedPage) (saved : List SavedPage) (levels : ℕ) → ∥ Sound maps used changed saved levels ∥₁ → (d p : ℕ) → has_from (suc levels) saved d p ≡ false
-none_above maps used changed saved levels t d p = ∥∥₁_elim t (Bool-set _ _) (λ s. s.below d p)

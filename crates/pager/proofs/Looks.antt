@@ -1,27 +1,42 @@
 -- What the store of changed pages holds after a page is put in.
-use Rattle.std.proofs.Common.{◌≡◌, ℕ, zero, suc, ◌+◌, ◌<◌, ◌≤◌, Bool, true, false, cond, ◌&&◌, eqb, ◌≢◌, ◌⊎◌, List, [], ◌∷◌, ◌++◌, length, get_or, take, set, Some, None, Option, sym, refl, ap, ◌∙◌, ap₂, inl, inr, arith}
-use Rattle.std.proofs.lemmas.List.{get_or-set_same, get_or-set_other, take_more_set}
-use Rattle.std.proofs.lemmas.Bool.{cases_Bool, cond-true, cond-false, eqb-true, eq-eqb, ne_eqb, and_parts, both_ways}
+use Rattle.std.proofs.Common.{◌≡◌, ℕ, ◌<◌, Bool, true, false, cond, ◌&&◌, eqb, ltb, ◌⊎◌, List, [], ◌∷◌, ◌++◌, length, get_or, set, Some, None, Option, sym, refl, ap, ◌∙◌, ap₂, inl, inr, arith}
+use Rattle.std.specs.List.{find, position, position_or_len, slice_get}
+use Rattle.std.specs.Option.{option_map, option_or}
+use Rattle.std.proofs.lemmas.List.Folds.{find_at, find-set, find_past, find-append}
+use Rattle.std.proofs.lemmas.List.Quantifiers.{position-Some}
+use Rattle.std.proofs.lemmas.Option.{none-some, cond_some, slice_get-get_or, slice_get_past}
+use Rattle.std.proofs.lemmas.Bool.{cases_Bool, cond-true, cond-false, eqb-true, eq-eqb, ne_eqb, ltb-false, and_parts, both_ways}
 use Rattle.card.specs.Meaning.{Bytes}
 use Rattle.pager.specs.declared.changed_page.ChangedPage.{ChangedPage}
-use Rattle.pager.specs.Changed.{no_row, is_row, look, Found, Nowhere, Whole}
+use Rattle.pager.specs.Changed.{is_row, look}
+
+abbrev blank : ChangedPage
+blank = record { database = 0; page = 0; bytes = [] }
+
+abbrev bytes_of : Option ChangedPage → Option Bytes
+bytes_of = option_map (λ row. row.bytes)
+
+first_at : (test : ChangedPage → Bool) (rows : List ChangedPage) (i : ℕ) → position test rows ≡ Some i → position_or_len test rows ≡ i
+first_at test rows i e = (cond_some (ltb (position_or_len test rows) (length rows)) (position_or_len test rows) i e).1
 
 -- the page is in none of the rows
-pub look_none : (rows : List ChangedPage) (n d p : ℕ) → Nowhere rows n d p → look (take n rows) d p ≡ None
+pub look_none : (rows : List ChangedPage) (d p : ℕ) → position (is_row d p) rows ≡ None → look rows d p ≡ None
 unfolding look
-look_none rows zero d p none = refl
-look_none [] (suc n) d p none = refl
-look_none (row ∷ rows) (suc n) d p none =
-    cond-false _ _ _ (none 0 (omega arith)) ∙ look_none rows n d p (λ j lt. none (suc j) (omega arith))
+look_none rows d p none = by (cases_Bool (ltb n (length rows)))
+  where
+    n : ℕ
+    n = position_or_len (is_row d p) rows
 
-pub look_found : (rows : List ChangedPage) (n d p i : ℕ) → n ≤ length rows → Found rows n d p i → look (take n rows) d p ≡ Some (get_or rows i no_row).bytes
+    by : (ltb (position_or_len (is_row d p) rows) (length rows) ≡ true) ⊎ (ltb (position_or_len (is_row d p) rows) (length rows) ≡ false) → bytes_of (find (is_row d p) rows) ≡ None
+    by (inl t) = absurd (none-some _ (sym none ∙ cond-true _ _ _ t))
+    by (inr u) = ap bytes_of (find_at (is_row d p) rows ∙ slice_get_past rows _ (ltb-false _ _ u))
+
+-- the page is in the row i
+pub look_found : (rows : List ChangedPage) (d p i : ℕ) → position (is_row d p) rows ≡ Some i → look rows d p ≡ Some (get_or rows i blank).bytes
 unfolding look
-look_found rows zero d p i le f = absurd (omega (arith, f.within))
-look_found [] (suc n) d p i le f = absurd (omega arith)
-look_found (row ∷ rows) (suc n) d p zero le f = cond-true _ _ _ f.here
-look_found (row ∷ rows) (suc n) d p (suc i) le f =
-    cond-false _ _ _ (f.before 0 (omega arith))
-    ∙ look_found rows n d p i (omega arith) (record { within = omega (arith, f.within); here = f.here; before = λ j lt. f.before (suc j) (omega arith) })
+look_found rows d p i at =
+    let within : i < length rows = (position-Some (is_row d p) rows i blank at).0 in
+    ap bytes_of (find_at (is_row d p) rows ∙ ap (slice_get rows) (first_at (is_row d p) rows i at) ∙ slice_get-get_or rows i blank within)
 
 -- a page with another in its place
 abbrev changed_to : ℕ → ℕ → Bytes → (ℕ → ℕ → Option Bytes) → ℕ → ℕ → Option Bytes
@@ -45,75 +60,36 @@ same_row d p e q row is =
     let b = eqb-true row.page p (and_parts _ _ is).1 in
     ap₂ (λ (x y : ℕ). eqb x e && eqb y q) a b ∙ row_is d p [] e q
 
-pub look_replaced :
-    (rows : List ChangedPage) (n d p i : ℕ) (bytes : Bytes) → n ≤ length rows → Found rows n d p i → (e q : ℕ) →
-    look (take n (set rows i (record { database = d; page = p; bytes = bytes }))) e q ≡ changed_to d p bytes (look (take n rows)) e q
-unfolding look
-look_replaced rows zero d p i bytes le f e q = absurd (omega (arith, f.within))
-look_replaced [] (suc n) d p i bytes le f e q = absurd (omega arith)
-look_replaced (row ∷ rows) (suc n) d p zero bytes le f e q =
-    ap (λ (b : Bool). cond b (Some bytes) (look (take n rows) e q)) (row_is d p bytes e q)
-    ∙ by (cases_Bool (eqb e d && eqb q p))
-  where
-    by : ((eqb e d && eqb q p) ≡ true) ⊎ ((eqb e d && eqb q p) ≡ false) → cond (eqb e d && eqb q p) (Some bytes) (look (take n rows) e q) ≡ cond (eqb e d && eqb q p) (Some bytes) (cond (is_row e q row) (Some row.bytes) (look (take n rows) e q))
-    by (inl t) = cond-true _ _ _ t ∙ sym (cond-true _ _ _ t)
-    by (inr u) = cond-false _ _ _ u ∙ sym (cond-false _ _ _ u ∙ cond-false _ _ _ (same_row d p e q row f.here ∙ u))
-look_replaced (row ∷ rows) (suc n) d p (suc i) bytes le f e q =
-    by (cases_Bool (is_row e q row)) (look_replaced rows n d p i bytes (omega arith) (record { within = omega (arith, f.within); here = f.here; before = λ j lt. f.before (suc j) (omega arith) }) e q)
-  where
-    rest : List ChangedPage
-    rest = take n (set rows i (record { database = d; page = p; bytes = bytes }))
+module _ (rows : List ChangedPage) (d p : ℕ) (bytes : Bytes) (e q : ℕ) where
+  new : ChangedPage
+  new = record { database = d; page = p; bytes = bytes }
 
-    by : (is_row e q row ≡ true) ⊎ (is_row e q row ≡ false) → look rest e q ≡ changed_to d p bytes (look (take n rows)) e q → cond (is_row e q row) (Some row.bytes) (look rest e q) ≡ cond (eqb e d && eqb q p) (Some bytes) (cond (is_row e q row) (Some row.bytes) (look (take n rows) e q))
-    by (inr u) later =
-        cond-false _ _ _ u ∙ later ∙ ap (λ (o : Option Bytes). cond (eqb e d && eqb q p) (Some bytes) o) (sym (cond-false _ _ _ u))
-    by (inl t) later = cond-true _ _ _ t ∙ sym (cond-false _ _ _ (other (cases_Bool (eqb e d && eqb q p))) ∙ cond-true _ _ _ t)
-      where
-        other : ((eqb e d && eqb q p) ≡ true) ⊎ ((eqb e d && eqb q p) ≡ false) → (eqb e d && eqb q p) ≡ false
-        other (inr w) = w
-        other (inl w) =
-            let a = eqb-true e d (and_parts _ _ w).0 in
-            let b = eqb-true q p (and_parts _ _ w).1 in
-            absurd (both_ways (is_row d p row) (f.before 0 (omega arith)) (sym (ap₂ (λ (x y : ℕ). is_row x y row) a b) ∙ t))
+  same : (eqb e d && eqb q p) ≡ true → (e ≡ d) × (q ≡ p)
+  same t = (eqb-true e d (and_parts _ _ t).0, eqb-true q p (and_parts _ _ t).1)
 
-look_end : (rows : List ChangedPage) (d p : ℕ) (bytes : Bytes) (e q : ℕ) → look rows d p ≡ None → look (rows ++ (record { database = d; page = p; bytes = bytes } ∷ [])) e q ≡ changed_to d p bytes (look rows) e q
-unfolding look
-look_end [] d p bytes e q none = ap (λ (b : Bool). cond b (Some bytes) None) (row_is d p bytes e q)
-look_end (row ∷ rows) d p bytes e q none = by (cases_Bool (is_row e q row)) (cases_Bool (is_row d p row)) (look_end rows d p bytes e q)
-  where
-    more : List ChangedPage
-    more = rows ++ (record { database = d; page = p; bytes = bytes } ∷ [])
+  pub look_replaced : (i : ℕ) → position (is_row d p) rows ≡ Some i → look (set rows i (record { database = d; page = p; bytes = bytes })) e q ≡ changed_to d p bytes (look rows) e q
+  unfolding look new
+  look_replaced i at = by (cases_Bool (eqb e d && eqb q p))
+    where
+      by : ((eqb e d && eqb q p) ≡ true) ⊎ ((eqb e d && eqb q p) ≡ false) → bytes_of (find (is_row e q) (set rows i new)) ≡ cond (eqb e d && eqb q p) (Some bytes) (bytes_of (find (is_row e q) rows))
+      by (inl t) =
+          let first = sym (ap₂ (λ (x y : ℕ). position_or_len (is_row x y) rows) (same t).0 (same t).1 ∙ first_at (is_row d p) rows i at) in
+          ap bytes_of (find-set (is_row e q) rows i new first (position-Some (is_row d p) rows i blank at).0 (row_is d p bytes e q ∙ t))
+          ∙ sym (cond-true _ _ _ t)
+      by (inr u) =
+          let here = (position-Some (is_row d p) rows i blank at).1 in
+          ap bytes_of (find_past (is_row e q) rows i new blank (same_row d p e q (get_or rows i blank) here ∙ u) (row_is d p bytes e q ∙ u))
+          ∙ sym (cond-false _ _ _ u)
 
-    by :
-        (is_row e q row ≡ true) ⊎ (is_row e q row ≡ false) → (is_row d p row ≡ true) ⊎ (is_row d p row ≡ false) → (look rows d p ≡ None → look more e q ≡ changed_to d p bytes (look rows) e q) →
-        cond (is_row e q row) (Some row.bytes) (look more e q) ≡ cond (eqb e d && eqb q p) (Some bytes) (cond (is_row e q row) (Some row.bytes) (look rows e q))
-    by w (inl here) later =
-        let z = sym (cond-true (is_row d p row) (Some row.bytes) (look rows d p) here) ∙ none in
-        let y : ◌≡◌ {A = ℕ} 0 1 = cc in absurd (omega arith)
-    by (inr u) (inr far) later =
-        cond-false _ _ _ u ∙ later (sym (cond-false _ _ _ far) ∙ none) ∙ ap (λ (o : Option Bytes). cond (eqb e d && eqb q p) (Some bytes) o) (sym (cond-false _ _ _ u))
-    by (inl t) (inr far) later = cond-true _ _ _ t ∙ sym (cond-false _ _ _ (other (cases_Bool (eqb e d && eqb q p))) ∙ cond-true _ _ _ t)
-      where
-        other : ((eqb e d && eqb q p) ≡ true) ⊎ ((eqb e d && eqb q p) ≡ false) → (eqb e d && eqb q p) ≡ false
-        other (inr w) = w
-        other (inl w) =
-            let a = eqb-true e d (and_parts _ _ w).0 in
-            let b = eqb-true q p (and_parts _ _ w).1 in
-            absurd (both_ways (is_row d p row) far (sym (ap₂ (λ (x y : ℕ). is_row x y row) a b) ∙ t))
-
-pub look_added :
-    (rows : List ChangedPage) (n d p : ℕ) (bytes : Bytes) → n < length rows → Nowhere rows n d p → (e q : ℕ) →
-    look (take (n + 1) (set rows n (record { database = d; page = p; bytes = bytes }))) e q ≡ changed_to d p bytes (look (take n rows)) e q
-look_added rows n d p bytes lt none e q =
-    ap (λ (l : List ChangedPage). look l e q) (take_more_set rows n (record { database = d; page = p; bytes = bytes }) lt)
-    ∙ look_end (take n rows) d p bytes e q (look_none rows n d p none)
-
--- rows of 512 bytes, one of them written
-pub whole_set : (rows : List ChangedPage) (n i : ℕ) (row : ChangedPage) → i < length rows → length row.bytes ≡ 512 → ((k : ℕ) → k < n → (k ≡ i → ⊥) → length (get_or rows k no_row).bytes ≡ 512) → Whole (set rows i row) n
-whole_set rows n i row lt long others k below = by (cases_Bool (eqb k i))
-  where
-    by : (eqb k i ≡ true) ⊎ (eqb k i ≡ false) → length (get_or (set rows i row) k no_row).bytes ≡ 512
-    by (inl t) = ap (λ (r : ChangedPage). length r.bytes) (ap (λ (j : ℕ). get_or (set rows i row) j no_row) (eqb-true k i t) ∙ get_or-set_same rows i row no_row lt) ∙ long
-    by (inr u) =
-        let ne : k ≢ i = λ e. both_ways (eqb k i) u (eq-eqb k i e) in
-        ap (λ (r : ChangedPage). length r.bytes) (get_or-set_other rows i k row no_row ne) ∙ others k below ne
+  pub look_added : position (is_row d p) rows ≡ None → look (rows ++ (record { database = d; page = p; bytes = bytes }) ∷ []) e q ≡ changed_to d p bytes (look rows) e q
+  unfolding look new
+  look_added at =
+      ap bytes_of (find-append (is_row e q) rows (new ∷ []))
+      ∙ ap (λ (b : Bool). bytes_of (option_or (find (is_row e q) rows) (cond b (Some new) None))) (row_is d p bytes e q)
+      ∙ by (find (is_row e q) rows) (eqb e d && eqb q p) (λ t. ap₂ (look rows) (same t).0 (same t).1 ∙ look_none rows d p at)
+    where
+      by : (o : Option ChangedPage) (b : Bool) → (b ≡ true → bytes_of o ≡ None) → bytes_of (option_or o (cond b (Some new) None)) ≡ cond b (Some bytes) (bytes_of o)
+      by None true h = refl
+      by None false h = refl
+      by (Some row) false h = refl
+      by (Some row) true h = absurd (none-some row.bytes (sym (h refl)))

@@ -1,26 +1,19 @@
 -- The saved pages after a release: what each lower savepoint saved, and what a page was at each.
 use Rattle.std.proofs.Common.{◌≡◌, ℕ, suc, ◌-◌, ◌<◌, ◌≤◌, min, Bool, true, false, cond, ◌&&◌, ◌||◌, eqb, leb, ◌⊎◌, List, [], ◌∷◌, is_some, Some, None, Option, sym, refl, ap, ◌∙◌, ap₂, inl, inr, arith}
 use native.Mathlib.Decide.{ℕ_discrete, dec_lt}
+use Rattle.std.proofs.Math.Bool.{or-false, or_assoc}
+use Rattle.std.specs.Option.{option_or}
 use Rattle.std.proofs.lemmas.Bool.{cases_Bool, cond-true, cond-false, eqb-true, eq-eqb, ne_eqb, le-leb, lt-leb, leb-true, leb-false, and_parts, and_left, or_left, or_right, or_parts, both_ways}
 use Rattle.pager.specs.declared.saved_page.SavedPage.{SavedPage}
 use Rattle.pager.specs.declared.saved_page.Was.{Was}
 use Rattle.pager.specs.Saved.{is_saved, has, has_from, first, passed, added, gathered}
-use Rattle.pager.proofs.Saves.{saves, has_end}
-use Rattle.pager.proofs.Views.{or_first, first_end, has_first}
-use Rattle.pager.proofs.Keeps.{from_end}
-
--- the row counts for the page at savepoint k
-abbrev pub counts : ℕ → ℕ → ℕ → SavedPage → Bool
-counts k d p row = leb k row.level && is_saved d p row
+use Rattle.pager.proofs.Saves.{saves, counts, has_end, from_end}
+use Rattle.pager.proofs.Views.{first_end, has_first}
 
 or_same : (a b : Bool) → (b ≡ true → a ≡ true) → a ≡ (a || b)
 or_same true b h = refl
 or_same false true h = absurd (both_ways false refl (h refl))
 or_same false false h = refl
-
-or_false : (a : Bool) → (a || false) ≡ a
-or_false true = refl
-or_false false = refl
 
 -- a row for the page that its savepoint has already
 known : (k d p : ℕ) (out : List SavedPage) (r : SavedPage) → is_saved d p r ≡ true → has r.level out r.database r.page ≡ true → has r.level out d p ≡ true
@@ -43,16 +36,15 @@ has_added k d p out r some = by (cases_Bool (leb 1 r.level)) (cases_Bool (has r.
         ∙ same (λ t. ap (λ (n : ℕ). has n out d p) (sym (eqb-true r.level k (and_parts _ _ t).0)) ∙ known k d p out r (and_parts _ _ t).1 had)
     by (inl up) (inr new) = ap (λ (l : List SavedPage). has k l d p) (cond-true _ _ _ up ∙ cond-false _ _ _ new) ∙ has_end k out r d p
 
-pub first_added : (k d p : ℕ) (out : List SavedPage) (r : SavedPage) → 0 < k → first k (added out r) d p ≡ or_first (first k out d p) (cond (counts k d p r) (Some r.was) None)
-unfolding or_first
+pub first_added : (k d p : ℕ) (out : List SavedPage) (r : SavedPage) → 0 < k → first k (added out r) d p ≡ option_or (first k out d p) (cond (counts k d p r) (Some r.was) None)
 first_added k d p out r some = by (cases_Bool (leb 1 r.level)) (cases_Bool (has r.level out r.database r.page))
   where
-    unchanged : (o : Option Was) (b : Bool) → (b ≡ true → is_some o ≡ true) → o ≡ or_first o (cond b (Some r.was) None)
+    unchanged : (o : Option Was) (b : Bool) → (b ≡ true → is_some o ≡ true) → o ≡ option_or o (cond b (Some r.was) None)
     unchanged (Some w) b h = refl
     unchanged None true h = absurd (both_ways false refl (h refl))
     unchanged None false h = refl
 
-    by : (leb 1 r.level ≡ true) ⊎ (leb 1 r.level ≡ false) → (has r.level out r.database r.page ≡ true) ⊎ (has r.level out r.database r.page ≡ false) → first k (added out r) d p ≡ or_first (first k out d p) (cond (counts k d p r) (Some r.was) None)
+    by : (leb 1 r.level ≡ true) ⊎ (leb 1 r.level ≡ false) → (has r.level out r.database r.page ≡ true) ⊎ (has r.level out r.database r.page ≡ false) → first k (added out r) d p ≡ option_or (first k out d p) (cond (counts k d p r) (Some r.was) None)
     by (inr none) w =
         ap (λ (l : List SavedPage). first k l d p) (cond-false _ _ _ none)
         ∙ unchanged (first k out d p) (counts k d p r) (λ t. let e = leb-true k r.level (and_parts _ _ t).0 in let z = leb-false 1 r.level none in absurd (omega arith))
@@ -92,51 +84,46 @@ eqb_top a b = by (dec_lt a b)
     by (yes lt) = ne_eqb (min a b) b (λ z. omega arith) ∙ sym (lt-leb b a lt)
     by (no ge) = eq-eqb (min a b) b (omega arith) ∙ sym (le-leb b a (omega arith))
 
-or_swap : (a b c : Bool) → ((a || b) || c) ≡ (a || (b || c))
-or_swap true b c = refl
-or_swap false b c = refl
-
-or_first_swap : (a b c : Option Was) → or_first (or_first a b) c ≡ or_first a (or_first b c)
-unfolding or_first
-or_first_swap None b c = refl
-or_first_swap (Some w) b c = refl
+or_nested : (a b c : Option Was) → option_or (option_or a b) c ≡ option_or a (option_or b c)
+or_nested None b c = refl
+or_nested (Some w) b c = refl
 
 module _ (s d p : ℕ) where
   -- below the savepoint that takes the pages over
   pub gathered_below : (k : ℕ) (out rows : List SavedPage) → 0 < k → k < s - 1 → has k (gathered s out rows) d p ≡ (has k out d p || has k rows d p)
   unfolding gathered has
-  gathered_below k out [] some lt = sym (or_false (has k out d p))
+  gathered_below k out [] some lt = sym (or-false (has k out d p))
   gathered_below k out (row ∷ rows) some lt =
       gathered_below k (added out (passed s row)) rows some lt
       ∙ ap (λ (b : Bool). b || has k rows d p) (has_added k d p out (passed s row) some ∙ ap (λ (b : Bool). has k out d p || (b && is_saved d p row)) (eqb_min k row.level (s - 1) lt))
-      ∙ or_swap (has k out d p) (saves k d p row) (has k rows d p)
+      ∙ or_assoc (has k out d p) (saves k d p row) (has k rows d p)
 
   -- the savepoint that takes the pages over
   pub gathered_top : (k : ℕ) (out rows : List SavedPage) → 0 < k → k ≡ s - 1 → has k (gathered s out rows) d p ≡ (has k out d p || has_from k rows d p)
   unfolding gathered has_from
-  gathered_top k out [] some e = sym (or_false (has k out d p))
+  gathered_top k out [] some e = sym (or-false (has k out d p))
   gathered_top k out (row ∷ rows) some e =
       gathered_top k (added out (passed s row)) rows some e
       ∙ ap (λ (b : Bool). b || has_from k rows d p)
       (has_added k d p out (passed s row) some ∙ ap (λ (b : Bool). has k out d p || (b && is_saved d p row)) (ap (λ (n : ℕ). eqb (min row.level n) k) (sym e) ∙ eqb_top row.level k))
-      ∙ or_swap (has k out d p) (counts k d p row) (has_from k rows d p)
+      ∙ or_assoc (has k out d p) (counts k d p row) (has_from k rows d p)
 
   -- what a page was stays
-  pub gathered_first : (k : ℕ) (out rows : List SavedPage) → 0 < k → k ≤ s - 1 → first k (gathered s out rows) d p ≡ or_first (first k out d p) (first k rows d p)
-  unfolding gathered first or_first
+  pub gathered_first : (k : ℕ) (out rows : List SavedPage) → 0 < k → k ≤ s - 1 → first k (gathered s out rows) d p ≡ option_or (first k out d p) (first k rows d p)
+  unfolding gathered first
   gathered_first k out [] some le = sym (none (first k out d p))
     where
-      none : (o : Option Was) → or_first o None ≡ o
+      none : (o : Option Was) → option_or o None ≡ o
       none None = refl
       none (Some w) = refl
   gathered_first k out (row ∷ rows) some le =
       gathered_first k (added out (passed s row)) rows some le
-      ∙ ap (λ (o : Option Was). or_first o (first k rows d p))
-      (first_added k d p out (passed s row) some ∙ ap (λ (b : Bool). or_first (first k out d p) (cond (b && is_saved d p row) (Some row.was) None)) (leb_min k row.level (s - 1) le))
-      ∙ or_first_swap (first k out d p) (cond (counts k d p row) (Some row.was) None) (first k rows d p)
-      ∙ ap (or_first (first k out d p)) (head (counts k d p row))
+      ∙ ap (λ (o : Option Was). option_or o (first k rows d p))
+      (first_added k d p out (passed s row) some ∙ ap (λ (b : Bool). option_or (first k out d p) (cond (b && is_saved d p row) (Some row.was) None)) (leb_min k row.level (s - 1) le))
+      ∙ or_nested (first k out d p) (cond (counts k d p row) (Some row.was) None) (first k rows d p)
+      ∙ ap (option_or (first k out d p)) (head (counts k d p row))
     where
-      head : (b : Bool) → or_first (cond b (Some row.was) None) (first k rows d p) ≡ cond b (Some row.was) (first k rows d p)
+      head : (b : Bool) → option_or (cond b (Some row.was) None) (first k rows d p) ≡ cond b (Some row.was) (first k rows d p)
       head true = refl
       head false = refl
 

@@ -13,7 +13,7 @@ use Rattle.pager.proofs.Pages.{length_file_page, length_joined}
 
 -- a page now has 512 bytes
 pub page_long : (files : ℕ → Bytes) (m : Memory) (d p : ℕ) → length (page_now files (fields m) d p) ≡ 512
-page_long files m d p = by (look (fields m).changed d p) (look_long m.changed.rows m.changed.used m.changed.whole d p)
+page_long files m d p = by (look (fields m).changed d p) (look_long m.changed.rows.items m.changed.whole d p)
   where
     by : (o : Option Bytes) → ((b : Bytes) → o ≡ Some b → length b ≡ 512) → length (or_file o (file_page (files d) p)) ≡ 512
     by None long = length_file_page (files d) p

@@ -1,7 +1,9 @@
 -- A savepoint pushed, and savepoints released, as steps of the machine that the memory is.
-use Rattle.std.proofs.Common.{◌≡◌, ℕ, zero, suc, ◌+◌, ◌-◌, ◌<◌, ◌≤◌, Bool, true, false, ◌||◌, ◌≢◌, List, [], ◌∷◌, length, get_or, take, drop, set, None, Option, sym, refl, ap, ◌∙◌, arith}
+use Rattle.std.proofs.Common.{◌≡◌, ℕ, zero, suc, ◌+◌, ◌-◌, ◌<◌, ◌≤◌, Bool, true, false, ◌||◌, List, [], ◌∷◌, ◌++◌, length, get_or, take, drop, None, Option, sym, refl, ap, ◌∙◌, arith}
 use mathlib.Core.Path.{fun_ext}
-use Rattle.std.proofs.lemmas.List.{get_or-set_same, get_or-set_other}
+use Rattle.std.proofs.Math.Bool.{or-false}
+use Rattle.std.proofs.lemmas.List.{get_or_append_left, get_or-take}
+use Rattle.std.proofs.Math.Seq.{get_or-append_seam}
 use Rattle.std.proofs.lemmas.Bool.{or_parts}
 use Rattle.card.specs.Meaning.{Bytes}
 use Rattle.pager.specs.declared.saved_page.Was.{Was}
@@ -10,7 +12,6 @@ use Rattle.pager.specs.Sound.{map_of}
 use Rattle.pager.specs.Machine.{saved_by, pass_down, no_pages}
 use Rattle.pager.specs.View.{Fields, file_page, joined, was_page, was_changed, page_now, held_now, held_at, stack}
 use Rattle.pager.proofs.Pages.{joined_same}
-use Rattle.pager.proofs.Views.{or_first}
 use Rattle.pager.proofs.Passes.{gathered_below, gathered_top, gathered_first, gathered_above, from_first, from_split}
 
 module _ (files : ℕ → Bytes) (f : Fields) where
@@ -19,7 +20,7 @@ module _ (files : ℕ → Bytes) (f : Fields) where
   length_stack zero = refl
   length_stack (suc k) = ap suc (length_stack k)
 
-  module _ (levels : ℕ) (below : (d p : ℕ) → has_from (suc levels) f.saved d p ≡ false) (lt : levels < length f.level_sizes) where
+  module _ (levels : ℕ) (below : (d p : ℕ) → has_from (suc levels) f.saved d p ≡ false) (high : length f.level_sizes ≡ levels) where
     -- the sizes of now are kept for the new savepoint
     unfoldable pub with_sizes : Fields
     with_sizes = record {
@@ -27,15 +28,15 @@ module _ (files : ℕ → Bytes) (f : Fields) where
       maps = f.maps;
       changed = f.changed;
       saved = f.saved;
-      level_sizes = set f.level_sizes levels f.sizes;
+      level_sizes = f.level_sizes ++ f.sizes ∷ [];
     }
 
     held_new : held_at files with_sizes (suc levels) ≡ held_now files f
     unfolding with_sizes
     held_new =
-        let i : suc levels - 1 ≡ levels = omega arith in
-        let sizes : get_or (set f.level_sizes levels f.sizes) (suc levels - 1) [] ≡ f.sizes =
-        ap (λ (j : ℕ). get_or (set f.level_sizes levels f.sizes) j []) i ∙ get_or-set_same f.level_sizes levels f.sizes [] lt in
+        let i : suc levels - 1 ≡ length f.level_sizes = omega arith in
+        let sizes : get_or (f.level_sizes ++ f.sizes ∷ []) (suc levels - 1) [] ≡ f.sizes =
+        ap (λ (j : ℕ). get_or (f.level_sizes ++ f.sizes ∷ []) j []) i ∙ get_or-append_seam f.level_sizes f.sizes [] [] in
         let none : (d p : ℕ) → first (suc levels) f.saved d p ≡ None = λ d p. from_first (suc levels) f.saved d p (below d p) in
         let c = fun_ext (λ (d : ℕ). ap (λ (l : List ℕ). joined (get_or l d 0) (λ p. was_page (first (suc levels) f.saved d p) (page_now files f d p) (file_page (files d) p))) sizes ∙ joined_same (get_or f.sizes d 0) _ _ (λ p a b. ap (λ (o : Option Was). was_page o (page_now files f d p) (file_page (files d) p)) (none d p))) in
         let m = fun_ext (λ (d : ℕ). fun_ext (λ (p : ℕ). ap (λ (o : Option Was). was_changed o (map_of f.maps d p)) (none d p))) in
@@ -44,8 +45,7 @@ module _ (files : ℕ → Bytes) (f : Fields) where
     held_old : (k : ℕ) → 0 < k → k ≤ levels → held_at files with_sizes k ≡ held_at files f k
     unfolding with_sizes
     held_old k some le =
-        let ne : (k - 1) ≢ levels = λ e. omega arith in
-        let c = fun_ext (λ (d : ℕ). ap (λ (l : List ℕ). joined (get_or l d 0) (λ p. was_page (first k f.saved d p) (page_now files f d p) (file_page (files d) p))) (get_or-set_other f.level_sizes levels (k - 1) f.sizes [] ne)) in
+        let c = fun_ext (λ (d : ℕ). ap (λ (l : List ℕ). joined (get_or l d 0) (λ p. was_page (first k f.saved d p) (page_now files f d p) (file_page (files d) p))) (get_or_append_left f.level_sizes (f.sizes ∷ []) [] (k - 1) (omega arith))) in
         λ i. record { current = c i; changed = (held_at files f k).changed }
 
     none_saved : has (suc levels) f.saved ≡ no_pages
@@ -100,17 +100,18 @@ module _ (files : ℕ → Bytes) (f : Fields) where
       maps = f.maps;
       changed = f.changed;
       saved = gathered s [] f.saved;
-      level_sizes = f.level_sizes;
+      level_sizes = take (s - 1) f.level_sizes;
     }
 
     same_first : (k d p : ℕ) → 0 < k → k ≤ s - 1 → first k (gathered s [] f.saved) d p ≡ first k f.saved d p
-    unfolding first or_first
+    unfolding first
     same_first k d p some le = gathered_first s d p k [] f.saved some le
 
     held_passed : (k : ℕ) → 0 < k → k ≤ s - 1 → held_at files passed_fields k ≡ held_at files f k
     unfolding passed_fields
     held_passed k some le =
-        let c = fun_ext (λ (d : ℕ). joined_same (get_or (get_or f.level_sizes (k - 1) []) d 0) _ _ (λ p a b. ap (λ (o : Option Was). was_page o (page_now files f d p) (file_page (files d) p)) (same_first k d p some le))) in
+        let sizes = get_or-take (s - 1) f.level_sizes (k - 1) [] (omega arith) in
+        let c = fun_ext (λ (d : ℕ). ap (λ (l : List ℕ). joined (get_or l d 0) (λ p. was_page (first k (gathered s [] f.saved) d p) (page_now files f d p) (file_page (files d) p))) sizes ∙ joined_same (get_or (get_or f.level_sizes (k - 1) []) d 0) _ _ (λ p a b. ap (λ (o : Option Was). was_page o (page_now files f d p) (file_page (files d) p)) (same_first k d p some le))) in
         let m = fun_ext (λ (d : ℕ). fun_ext (λ (p : ℕ). ap (λ (o : Option Was). was_changed o (map_of f.maps d p)) (same_first k d p some le))) in
         λ i. record { current = c i; changed = m i }
 
@@ -129,11 +130,7 @@ module _ (files : ℕ → Bytes) (f : Fields) where
     top_saved k d p e =
         gathered_top s d p (suc k) [] f.saved (omega arith) e ∙ from_split (suc k) f.saved d p
         ∙ ap (λ (b : Bool). has (suc k) f.saved d p || b)
-        (saved_stack (levels + 1 - s) (suc k) levels d p (omega arith) ∙ ap (λ (b : Bool). saved_by (take (levels + 1 - s) (stack files f levels)) d p || b) (below d p) ∙ none (saved_by (take (levels + 1 - s) (stack files f levels)) d p))
-      where
-        none : (b : Bool) → (b || false) ≡ b
-        none true = refl
-        none false = refl
+        (saved_stack (levels + 1 - s) (suc k) levels d p (omega arith) ∙ ap (λ (b : Bool). saved_by (take (levels + 1 - s) (stack files f levels)) d p || b) (below d p) ∙ or-false (saved_by (take (levels + 1 - s) (stack files f levels)) d p))
 
     left : (k : ℕ) → k ≡ s - 1 → stack files passed_fields k ≡ pass_down (take (levels + 1 - s) (stack files f levels)) (stack files f k)
     unfolding stack pass_down passed_fields

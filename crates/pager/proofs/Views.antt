@@ -1,6 +1,8 @@
 -- A write of a page, as a step of the machine that the memory is.
 use Rattle.std.proofs.Common.{◌≡◌, ℕ, zero, suc, ◌+◌, ◌-◌, ◌<◌, ◌≤◌, max, Bool, true, false, cond, ◌&&◌, ◌||◌, eqb, leb, ◌⊎◌, List, [], ◌∷◌, ◌++◌, length, get_or, is_some, Some, None, Option, sym, refl, ap, ◌∙◌, subst, ap₂, inl, inr, arith}
 use mathlib.Core.Path.{fun_ext}
+use Rattle.std.specs.Option.{option_or}
+use Rattle.std.proofs.Math.Bool.{or-false}
 use native.Mathlib.Decide.{ℕ_discrete}
 use Rattle.std.proofs.lemmas.Bool.{cases_Bool, cond-true, cond-false, eqb-true, eq-eqb, ne_eqb, le-leb, and_parts, and_from, and_left, and_right, or_right, both_ways}
 use Rattle.card.specs.Meaning.{Bytes}
@@ -24,16 +26,12 @@ at_ext f g d v here others = fun_ext (λ k. by k (ℕ_discrete k d))
     by k (yes e) = ap g e ∙ here ∙ sym (cond-true _ _ _ (eq-eqb k d e))
     by k (no ne) = others k ne ∙ sym (cond-false _ _ _ (ne_eqb k d ne))
 
-unfoldable pub or_first : Option Was → Option Was → Option Was
-or_first None o = o
-or_first (Some w) o = Some w
-
-pub first_end : (k : ℕ) (rows : List SavedPage) (row : SavedPage) (d p : ℕ) → first k (rows ++ (row ∷ [])) d p ≡ or_first (first k rows d p) (cond (leb k row.level && is_saved d p row) (Some row.was) None)
-unfolding first or_first
+pub first_end : (k : ℕ) (rows : List SavedPage) (row : SavedPage) (d p : ℕ) → first k (rows ++ (row ∷ [])) d p ≡ option_or (first k rows d p) (cond (leb k row.level && is_saved d p row) (Some row.was) None)
+unfolding first
 first_end k [] row d p = refl
 first_end k (r ∷ rows) row d p = by (leb k r.level && is_saved d p r) (first_end k rows row d p)
   where
-    by : (b : Bool) → first k (rows ++ (row ∷ [])) d p ≡ or_first (first k rows d p) (cond (leb k row.level && is_saved d p row) (Some row.was) None) → cond b (Some r.was) (first k (rows ++ (row ∷ [])) d p) ≡ or_first (cond b (Some r.was) (first k rows d p)) (cond (leb k row.level && is_saved d p row) (Some row.was) None)
+    by : (b : Bool) → first k (rows ++ (row ∷ [])) d p ≡ option_or (first k rows d p) (cond (leb k row.level && is_saved d p row) (Some row.was) None) → cond b (Some r.was) (first k (rows ++ (row ∷ [])) d p) ≡ option_or (cond b (Some r.was) (first k rows d p)) (cond (leb k row.level && is_saved d p row) (Some row.was) None)
     by true e = refl
     by false e = e
 
@@ -154,10 +152,9 @@ module _
   unfolding new_row
   row_here = and_from _ _ (eq-eqb d d refl) (eq-eqb p p refl)
 
-  or_first_none : (o : Option Was) → or_first o None ≡ o
-  unfolding or_first
-  or_first_none None = refl
-  or_first_none (Some w) = refl
+  or_none : (o : Option Was) → option_or o None ≡ o
+  or_none None = refl
+  or_none (Some w) = refl
 
   -- a page other than the one that is written
   first_far : (k e q : ℕ) → (eqb e d && eqb q p) ≡ false → first k g.saved e q ≡ first k f.saved e q
@@ -167,8 +164,8 @@ module _
       by : (g.saved ≡ f.saved ++ (new_row ∷ [])) ⊎ ((g.saved ≡ f.saved) × ((levels ≡ 0) ⊎ (has levels f.saved d p ≡ true))) → first k g.saved e q ≡ first k f.saved e q
       by (inl more) =
           ap (λ (l : List SavedPage). first k l e q) more ∙ first_end k f.saved new_row e q
-          ∙ ap (or_first (first k f.saved e q)) (cond-false _ _ _ (and_right _ _ (row_far e q far)))
-          ∙ or_first_none (first k f.saved e q)
+          ∙ ap (option_or (first k f.saved e q)) (cond-false _ _ _ (and_right _ _ (row_far e q far)))
+          ∙ or_none (first k f.saved e q)
       by (inr same) = ap (λ (l : List SavedPage). first k l e q) same.0
 
   -- the page that is written, where it was saved since
@@ -181,23 +178,23 @@ module _
       )
 
   was_here : (k : ℕ) → 0 < k → k ≤ levels → SameWas k d p
-  unfolding new_row or_first SameWas
+  unfolding new_row SameWas
   was_here k some le = by wrote.saved (first k f.saved d p) refl
     where
       by : (g.saved ≡ f.saved ++ (new_row ∷ [])) ⊎ ((g.saved ≡ f.saved) × ((levels ≡ 0) ⊎ (has levels f.saved d p ≡ true))) → (o : Option Was) → first k f.saved d p ≡ o → SameWas k d p
       by (inl more) (Some w) old =
           fixed k (Some w)
-          (ap (λ (l : List SavedPage). first k l d p) more ∙ first_end k f.saved new_row d p ∙ ap (λ (x : Option Was). or_first x (cond (leb k levels && is_saved d p new_row) (Some new_row.was) None)) old ∙ some_first w (cond (leb k levels && is_saved d p new_row) (Some new_row.was) None))
+          (ap (λ (l : List SavedPage). first k l d p) more ∙ first_end k f.saved new_row d p ∙ ap (λ (x : Option Was). option_or x (cond (leb k levels && is_saved d p new_row) (Some new_row.was) None)) old ∙ some_first w (cond (leb k levels && is_saved d p new_row) (Some new_row.was) None))
           old refl
         where
-          some_first : (w : Was) (x : Option Was) → or_first (Some w) x ≡ Some w
+          some_first : (w : Was) (x : Option Was) → option_or (Some w) x ≡ Some w
           some_first w x = refl
       by (inl more) None old = kept
         where
           saved_now : first k g.saved d p ≡ Some (was_of (look f.changed d p) (leb p (get_or f.sizes d 0)))
           saved_now =
               ap (λ (l : List SavedPage). first k l d p) more ∙ first_end k f.saved new_row d p
-              ∙ ap₂ or_first old (cond-true _ _ _ (and_from _ _ (le-leb k levels le) row_here))
+              ∙ ap₂ option_or old (cond-true _ _ _ (and_from _ _ (le-leb k levels le) row_here))
 
           kept : SameWas k d p
           kept =
@@ -244,10 +241,6 @@ module _
       by (inr (same, inl none)) = absurd (omega arith)
       by (inr (same, inr had)) = ap (λ (l : List SavedPage). has levels l d p) same ∙ had
 
-  or_false : (b : Bool) → (b || false) ≡ b
-  or_false true = refl
-  or_false false = refl
-
   -- and nothing else is saved anew
   saved_far : (k e q : ℕ) → (k ≡ levels → (eqb e d && eqb q p) ≡ false) → has k g.saved e q ≡ has k f.saved e q
   unfolding new_row
@@ -260,7 +253,7 @@ module _
       by : (g.saved ≡ f.saved ++ (new_row ∷ [])) ⊎ ((g.saved ≡ f.saved) × ((levels ≡ 0) ⊎ (has levels f.saved d p ≡ true))) → has k g.saved e q ≡ has k f.saved e q
       by (inl more) =
           ap (λ (l : List SavedPage). has k l e q) more ∙ has_end k f.saved new_row e q
-          ∙ ap (λ (b : Bool). has k f.saved e q || b) (other (ℕ_discrete k levels)) ∙ or_false (has k f.saved e q)
+          ∙ ap (λ (b : Bool). has k f.saved e q || b) (other (ℕ_discrete k levels)) ∙ or-false (has k f.saved e q)
       by (inr same) = ap (λ (l : List SavedPage). has k l e q) same.0
 
   saved_top : 0 < levels → has levels g.saved ≡ at (has levels f.saved) d (including (has levels f.saved d) p)

@@ -1,6 +1,7 @@
 -- The store of saved pages, as a list in the order of saving: which savepoint saved which page, and
 -- what a page was when a savepoint was made.
-use Rattle.std.specs.Prelude.{ℕ, ◌-◌, min, Bool, false, cond, ◌&&◌, ◌||◌, List, [], ◌∷◌, ◌++◌, Some, None, Option, ◌==◌, nat_le}
+use Rattle.std.specs.Prelude.{ℕ, ◌-◌, min, Bool, cond, ◌&&◌, List, [], ◌∷◌, ◌++◌, Some, None, Option, ◌==◌, nat_le}
+use Rattle.std.specs.List.{list_any}
 use Rattle.pager.specs.declared.saved_page.SavedPage.{SavedPage}
 use Rattle.pager.specs.declared.saved_page.Was.{Was}
 
@@ -10,13 +11,11 @@ is_saved d p row = row.database == d && row.page == p
 
 -- savepoint k has saved the page
 unfoldable pub has : ℕ → List SavedPage → ℕ → ℕ → Bool
-has k [] d p = false
-has k (row ∷ rows) d p = (row.level == k && is_saved d p row) || has k rows d p
+has k rows d p = list_any (λ row. row.level == k && is_saved d p row) rows
 
 -- savepoint k or one above it has saved the page
 unfoldable pub has_from : ℕ → List SavedPage → ℕ → ℕ → Bool
-has_from k [] d p = false
-has_from k (row ∷ rows) d p = (nat_le k row.level && is_saved d p row) || has_from k rows d p
+has_from k rows d p = list_any (λ row. nat_le k row.level && is_saved d p row) rows
 
 -- what the page was when savepoint k was made: what it was when it was first saved since
 unfoldable pub first : ℕ → List SavedPage → ℕ → ℕ → Option Was

@@ -76,14 +76,14 @@ abbrev pub fields : Memory → Fields
 fields m = record {
   sizes = m.sizes;
   maps = m.maps;
-  changed = take m.changed.used m.changed.rows;
-  saved = take m.saved.used m.saved.rows;
-  level_sizes = m.level_sizes;
+  changed = m.changed.rows.items;
+  saved = m.saved.rows.items;
+  level_sizes = m.levels.items;
 }
 
 -- the machine
 abbrev pub view : (ℕ → Bytes) → Memory → Machine
-view files m = record { held = held_now files (fields m); savepoints = stack files (fields m) m.levels }
+view files m = record { held = held_now files (fields m); savepoints = stack files (fields m) (length m.levels.items) }
 
 -- the files hold so many whole pages
 abbrev pub Stored : (ℕ → Bytes) → List ℕ → Type 0
@@ -95,7 +95,7 @@ page_allowed m d p = nat_le 1 p && (nat_le p (slice_index m.sizes d + 1) && nat_
 
 -- the top savepoint has to save the page first
 abbrev pub to_save : Memory → ℕ → ℕ → Bool
-to_save m d p = nat_le 1 m.levels && not (has m.levels (fields m).saved d p)
+to_save m d p = nat_le 1 (length m.levels.items) && not (has (length m.levels.items) (fields m).saved d p)
 
 -- why a write is refused
 abbrev pub write_refusal : Memory → ℕ → ℕ → ℕ → Option Refusal
@@ -104,7 +104,7 @@ write_refusal m d p long =
     (cond (long == 512)
     (cond (page_allowed m d p)
     (cond (total (map_of m.maps) 4 == 32 && not (map_of m.maps d p)) (Some ChangedFull)
-    (cond (m.saved.used == 32 && to_save m d p) (Some SavedFull) None))
+    (cond (length m.saved.rows.items == 32 && to_save m d p) (Some SavedFull) None))
     (Some Page))
     (Some BufferLength))
     (Some NoDatabase)
@@ -119,7 +119,7 @@ was_of None false = Absent
 abbrev pub saved_first : Memory → ℕ → ℕ → List SavedPage
 saved_first m d p =
     cond (to_save m d p)
-    ((fields m).saved ++ (record { level = m.levels; database = d; page = p; was = was_of (look (fields m).changed d p) (nat_le p (slice_index m.sizes d)) } ∷ []))
+    ((fields m).saved ++ (record { level = length m.levels.items; database = d; page = p; was = was_of (look (fields m).changed d p) (nat_le p (slice_index m.sizes d)) } ∷ []))
     (fields m).saved
 
 -- the refusal of an answer

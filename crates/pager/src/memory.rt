@@ -1,10 +1,11 @@
 // What a transaction holds in memory: sizes, the changed pages, and the savepoints with the pages
 // that they saved.
-ghost use Rattle.std.specs.Prelude.{◌≡◌, ℕ, ◌≤◌, take};
+ghost use Rattle.std.specs.Prelude.{◌≡◌, ℕ, ◌≤◌, length};
 ghost use Rattle.pager.specs.Sound.{Sound};
 
 use crate::changed_pages::ChangedPages;
 use crate::saved_pages::SavedPages;
+use few::Few;
 use page_map::PageMap;
 
 mod look;
@@ -17,7 +18,7 @@ pub const DATABASES: usize = 4;
 /// The most savepoints that stand at one time.
 pub const SAVEPOINTS: usize = 8;
 
-/// The memory of a transaction. The sizes are in pages; those of a savepoint are from its making.
+/// The memory of a transaction. The sizes are in pages; each savepoint has those of its making.
 #[derive(Clone, Copy)]
 pub struct Memory {
     count: usize,
@@ -25,9 +26,8 @@ pub struct Memory {
     maps: [PageMap; 4],
     changed: ChangedPages,
     saved: SavedPages,
-    levels: usize,
-    level_sizes: [[u32; 4]; 8],
+    levels: Few<[u32; 4], SAVEPOINTS>,
     ghost few: { count ≤ 4 },
-    ghost low: { levels ≤ 8 },
-    ghost sound: { ∥ Sound maps changed.used (take changed.used changed.rows) (take saved.used saved.rows) levels ∥₁ },
+    ghost low: { length levels.items ≤ 8 },
+    ghost sound: { ∥ Sound maps changed.rows.items saved.rows.items (length levels.items) ∥₁ },
 }

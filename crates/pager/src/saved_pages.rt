@@ -1,18 +1,12 @@
 // The store of saved pages: 32 in all, for all savepoints together.
-ghost use Rattle.std.specs.Prelude.{◌≡◌, ℕ, ◌+◌, ◌<◌, ◌≤◌, Bool, true, false, cond, ◌&&◌, [], ◌∷◌, ◌++◌, length, take, ◌==◌};
-ghost use Rattle.pager.specs.Saved.{is_saved, has, passed as passed_down, added, gathered};
+ghost use Rattle.std.specs.Prelude.{◌≡◌, ◌+◌, ◌<◌, ◌≤◌, [], ◌∷◌, ◌++◌, length, ◌==◌};
+ghost use Rattle.pager.specs.Saved.{has, passed as passed_down, added, gathered};
 
 use crate::saved_page::{SavedPage, Was};
+use few::Few;
 
 /// The most pages that are saved at one time, by all savepoints.
 pub const SAVED_LIMIT: usize = 32;
-
-/// Whether the row has this page of this database, saved by this savepoint.
-fn is_saved(row: &SavedPage, level: usize, database: usize, page: u32) -> bool
-    ensures { result ≡ (row.now.level == level && is_saved database page row.now) }
-{
-    row.level == level && row.database == database && row.page == page
-}
 
 /// The row once savepoint s and all above are removed: it belongs to the one below.
 fn passed(row: &SavedPage, s: usize) -> SavedPage
@@ -21,98 +15,84 @@ fn passed(row: &SavedPage, s: usize) -> SavedPage
 {
     SavedPage {
         level: row.level.min(s - 1),
-        database: row.database,
-        page: row.page,
-        was: row.was,
+        ..*row
     }
 }
 
 /// The saved pages of all savepoints, in the order in which they were saved.
 #[derive(Clone, Copy)]
 pub struct SavedPages {
-    rows: [SavedPage; 32],
-    used: usize,
-    ghost few: { used ≤ 32 },
+    rows: Few<SavedPage, SAVED_LIMIT>,
+    ghost few: { length rows.items ≤ 32 },
 }
 
 impl SavedPages {
     /// A store with no page.
     pub fn new() -> SavedPages
-        ensures { result.used ≡ 0 }
+        ensures { result.rows.items ≡ [] }
     {
-        let blank = SavedPage {
-            level: 0,
-            database: 0,
-            page: 0,
-            was: Was::Absent,
-        };
         SavedPages {
-            rows: [blank; 32],
-            used: 0,
+            rows: Few::new(SavedPage {
+                level: 0,
+                database: 0,
+                page: 0,
+                was: Was::Absent,
+            }),
         }
     }
 
     /// Whether the savepoint has saved the page.
+    #[tactic(auto, unfolding(crate::specs::Saved::has))]
     pub fn has(&self, level: usize, database: usize, page: u32) -> bool
-        ensures { result ≡ has level (take self.now.used self.now.rows) database page }
+        ensures { result ≡ has level self.now.rows.items database page }
     {
-        for i in 0..self.used {
-            if is_saved(&self.rows[i], level, database, page) {
-                return true;
-            }
-        }
-        false
+        self.rows.as_slice().iter().any(|row| row.level == level
+            && row.database == database
+            && row.page == page)
     }
 
     /// How many pages are saved.
     pub fn count(&self) -> usize
-        ensures { result ≡ self.now.used }
+        ensures { result ≡ length self.now.rows.items }
     {
-        self.used
+        self.rows.len()
     }
 
     /// Whether the store is full.
     pub fn is_full(&self) -> bool
-        ensures { result ≡ (self.now.used == 32) }
+        ensures { result ≡ (length self.now.rows.items == 32) }
     {
-        self.used == SAVED_LIMIT
+        self.rows.is_full()
     }
 
     /// Adds a page.
     pub fn push(&mut self, row: SavedPage)
-        requires { self.old.used < 32 }
-        ensures rows { take self.new.used self.new.rows ≡ take self.old.used self.old.rows ++ (row ∷ []) }
-        ensures used { self.new.used ≡ self.old.used + 1 }
+        requires { length self.old.rows.items < 32 }
+        ensures { self.new.rows.items ≡ self.old.rows.items ++ row ∷ [] }
     {
-        let n = self.used;
-        self.rows[n] = row;
-        self.used = n + 1;
+        self.rows.push(row);
     }
 
     /// Adds a page, unless its savepoint has it already; with no savepoint it is dropped.
     fn add_once(&mut self, row: SavedPage)
-        requires { self.old.used < 32 }
-        ensures rows { take self.new.used self.new.rows ≡ added (take self.old.used self.old.rows) row }
-        ensures used { self.new.used ≤ self.old.used + 1 }
+        requires { length self.old.rows.items < 32 }
+        ensures rows { self.new.rows.items ≡ added self.old.rows.items row }
+        ensures used { length self.new.rows.items ≤ length self.old.rows.items + 1 }
     {
-        if row.level == 0 {
-            return;
+        if row.level > 0 && !self.has(row.level, row.database, row.page) {
+            self.push(row);
         }
-        if self.has(row.level, row.database, row.page) {
-            return;
-        }
-        self.push(row);
     }
 
     /// The store once savepoint s and all above are removed: their pages pass to the one below,
     /// each once, or are dropped.
     pub fn passed_down(&self, s: usize) -> SavedPages
         requires { 1 ≤ s }
-        ensures { take result.used result.rows ≡ gathered s [] (take self.now.used self.now.rows) }
+        ensures { result.rows.items ≡ gathered s [] self.now.rows.items }
     {
         let mut out = SavedPages::new();
-        for i in 0..self.used {
-            out.add_once(passed(&self.rows[i], s));
+        for row in self.rows.as_slice() {
+            out.add_once(passed(row, s));
         }
         out
     }

@@ -1,6 +1,6 @@
 -- Why the calls of a set are refused, the test of the mode first and then those of the memory; and what they
 -- leave alone.
-use Rattle.std.specs.Prelude.{◌≡◌, ℕ, cond, ◌&&◌, List, Some, None, Option, ◌==◌, nat_le}
+use Rattle.std.specs.Prelude.{◌≡◌, ℕ, cond, ◌&&◌, List, [], length, Some, None, Option, ◌==◌, nat_le}
 use Rattle.std.specs.Option.{option_map}
 use Rattle.refusal.specs.declared.refusals.Refusal.{Refusal}
 use Rattle.refusal.specs.declared.refusals.Refusal.TheVariants.{SavepointsFull, NoSavepoint}
@@ -23,17 +23,17 @@ module _ (mode : Mode) (begun number : ℕ) (memory : Memory) where
   writing_refusal d p long = or_else (says mode begun (Use number)) (option_map of_memory (write_refusal memory d p long))
 
   abbrev pub savepoint_refusal : Option Refusal
-  savepoint_refusal = or_else (says mode begun (Use number)) (cond (memory.levels == 8) (Some SavepointsFull) None)
+  savepoint_refusal = or_else (says mode begun (Use number)) (cond (length memory.levels.items == 8) (Some SavepointsFull) None)
 
   abbrev pub release_refusal : ℕ → Option Refusal
-  release_refusal s = or_else (says mode begun (Use number)) (cond (nat_le 1 s && nat_le s memory.levels) None (Some NoSavepoint))
+  release_refusal s = or_else (says mode begun (Use number)) (cond (nat_le 1 s && nat_le s (length memory.levels.items)) None (Some NoSavepoint))
 
 -- a memory is cleared to sizes: nothing is changed, and no savepoint stands
 pub record Fresh (before : Memory) (rows : List ℕ) (after : Memory) : Type 0 where
   pub count : after.count ≡ before.count
   pub sizes : after.sizes ≡ rows
-  pub changed : after.changed.used ≡ 0
-  pub saved : after.saved.used ≡ 0
+  pub changed : after.changed.rows.items ≡ []
+  pub saved : after.saved.rows.items ≡ []
   pub view : (files : ℕ → List ℕ) → Stored files rows → view files after ≡ cleared files
 
 -- all but the memory is as it was

@@ -1,5 +1,5 @@
 // Making a memory, clearing it, and looking at it.
-ghost use Rattle.std.specs.Prelude.{◌≡◌, ℕ, ◌*◌, ◌<◌, ◌≤◌, min, cond, List, is_some, Some, None, MatchOption, MatchResult, slice_index};
+ghost use Rattle.std.specs.Prelude.{◌≡◌, ℕ, ◌*◌, ◌<◌, ◌≤◌, min, cond, List, [], length, is_some, Some, None, MatchOption, MatchResult, slice_index};
 ghost use Rattle.std.specs.Option.{option_map};
 ghost use Rattle.pager.specs.declared.refusal.Refusal.TheVariants.{NoDatabase};
 ghost use Rattle.pager.specs.Changed.{look};
@@ -12,6 +12,7 @@ use crate::changed_pages::ChangedPages;
 use crate::memory::{DATABASES, Memory};
 use crate::refusal::Refusal;
 use crate::saved_pages::SavedPages;
+use few::Few;
 use page_map::PageMap;
 
 impl Memory {
@@ -20,7 +21,7 @@ impl Memory {
     pub fn new(count: usize, sizes: [u32; 4]) -> Memory
         ensures count { result.count ≡ min count 4 }
         ensures sizes { result.sizes ≡ sizes }
-        ensures empty { (result.changed.used ≡ 0) × (result.saved.used ≡ 0) }
+        ensures empty { (result.changed.rows.items ≡ []) × (result.saved.rows.items ≡ []) }
         ensures view { (files : ℕ → List ℕ) → Stored files sizes → view files result ≡ cleared files }
     {
         Memory {
@@ -29,8 +30,7 @@ impl Memory {
             maps: [PageMap::new(); 4],
             changed: ChangedPages::new(),
             saved: SavedPages::new(),
-            levels: 0,
-            level_sizes: [[0; 4]; 8],
+            levels: Few::new([0; 4]),
         }
     }
 
@@ -38,7 +38,7 @@ impl Memory {
     pub fn clear(&mut self, sizes: [u32; 4])
         ensures count { self.new.count ≡ self.old.count }
         ensures sizes { self.new.sizes ≡ sizes }
-        ensures empty { (self.new.changed.used ≡ 0) × (self.new.saved.used ≡ 0) }
+        ensures empty { (self.new.changed.rows.items ≡ []) × (self.new.saved.rows.items ≡ []) }
         ensures view { (files : ℕ → List ℕ) → Stored files sizes → view files self.new ≡ cleared files }
     {
         *self = Memory::new(self.count, sizes);
@@ -52,13 +52,21 @@ impl Memory {
         self.changed.get(database, page)
     }
 
-    /// How many pages a database has.
-    pub fn size(&self, database: usize) -> Result<u32, Refusal>
-        ensures { MatchResult result (λ n. (database < self.now.count) × (n ≡ slice_index self.now.sizes database)) (λ e. (self.now.count ≤ database) × (e ≡ NoDatabase)) }
+    /// That there is such a database.
+    pub(super) fn known(&self, database: usize) -> Result<(), Refusal>
+        ensures { MatchResult result (λ _. database < self.now.count) (λ e. (self.now.count ≤ database) × (e ≡ NoDatabase)) }
     {
         if database >= self.count {
             return Err(Refusal::NoDatabase);
         }
+        Ok(())
+    }
+
+    /// How many pages a database has.
+    pub fn size(&self, database: usize) -> Result<u32, Refusal>
+        ensures { MatchResult result (λ n. (database < self.now.count) × (n ≡ slice_index self.now.sizes database)) (λ e. (self.now.count ≤ database) × (e ≡ NoDatabase)) }
+    {
+        self.known(database)?;
         Ok(self.sizes[database])
     }
 
@@ -73,9 +81,7 @@ impl Memory {
     pub fn changed_count(&self, database: usize) -> Result<u32, Refusal>
         ensures { MatchResult result (λ n. (database < self.now.count) × (n ≡ counted (map_of self.now.maps database) 4096)) (λ e. (self.now.count ≤ database) × (e ≡ NoDatabase)) }
     {
-        if database >= self.count {
-            return Err(Refusal::NoDatabase);
-        }
+        self.known(database)?;
         Ok(self.maps[database].count())
     }
 
@@ -85,9 +91,7 @@ impl Memory {
         ensures next { MatchResult result (λ o. (database < self.now.count) × MatchOption o (NoneAbove (map_of self.now.maps database) page) (λ p. NextAbove (map_of self.now.maps database) page p)) (λ e. (self.now.count ≤ database) × (e ≡ NoDatabase)) }
         ensures visit { VisitLaw (map_of self.now.maps database) }
     {
-        if database >= self.count {
-            return Err(Refusal::NoDatabase);
-        }
+        self.known(database)?;
         Ok(self.maps[database].next_above(page))
     }
 
@@ -100,14 +104,14 @@ impl Memory {
 
     /// How many savepoints stand.
     pub fn savepoints(&self) -> usize
-        ensures { result ≡ self.now.levels }
+        ensures { result ≡ length self.now.levels.items }
     {
-        self.levels
+        self.levels.len()
     }
 
     /// How many pages are saved, by all savepoints.
     pub fn saved_count(&self) -> usize
-        ensures { result ≡ self.now.saved.used }
+        ensures { result ≡ length self.now.saved.rows.items }
     {
         self.saved.count()
     }

@@ -1,12 +1,12 @@
 // Savepoints: pushing one, and releasing one with all above it.
-ghost use Rattle.std.specs.Prelude.{◌≡◌, ℕ, ◌+◌, ◌&&◌, leb, List, [], IfOk, if◌then◌else◌, Some, None, ◌≢◌, nat_eq, nat_le};
+ghost use Rattle.std.specs.Prelude.{◌≡◌, ℕ, ◌+◌, ◌&&◌, leb, List, [], length, IfOk, if◌then◌else◌, Some, None, ◌≢◌, nat_eq, nat_le};
 ghost use Rattle.pager.specs.declared.refusal.Refusal.TheVariants.{SavepointsFull, NoSavepoint};
 ghost use Rattle.pager.specs.Laws.{BackLaw, ReleaseLaw};
 ghost use Rattle.pager.specs.Machine.{pushed, released};
 ghost use Rattle.pager.specs.Saved.{gathered};
 ghost use Rattle.pager.specs.View.{view, fields, refused};
 
-use crate::memory::{Memory, SAVEPOINTS};
+use crate::memory::Memory;
 use crate::refusal::Refusal;
 
 impl Memory {
@@ -14,35 +14,32 @@ impl Memory {
     /// carries the law of the step back: it restores what was held here, whatever was written, saved
     /// and released since.
     pub fn push(&mut self) -> Result<usize, Refusal>
-        ensures refusal { refused result ≡ (if nat_eq self.old.levels 8 then Some SavepointsFull else None) }
+        ensures refusal { refused result ≡ (if nat_eq (length self.old.levels.items) 8 then Some SavepointsFull else None) }
         ensures kept { (refused result ≢ None) → self.new ≡ self.old }
         ensures count { self.new.count ≡ self.old.count }
-        ensures number { IfOk result (λ k. (k ≡ self.old.levels + 1) × (self.new.levels ≡ k)) }
+        ensures number { IfOk result (λ k. (k ≡ length self.old.levels.items + 1) × (length self.new.levels.items ≡ k)) }
         ensures done { refused result ≡ None → (files : ℕ → List ℕ) → view files self.new ≡ pushed (view files self.old) }
         ensures stores { (self.new.changed ≡ self.old.changed) × (self.new.saved ≡ self.old.saved) }
         ensures back { BackLaw }
     {
-        if self.levels == SAVEPOINTS {
+        if self.levels.is_full() {
             return Err(Refusal::SavepointsFull);
         }
-        let n = self.levels;
-        let sizes = self.sizes;
-        self.level_sizes[n] = sizes;
-        self.levels = n + 1;
-        Ok(n + 1)
+        self.levels.push(self.sizes);
+        Ok(self.levels.len())
     }
 
     /// Whether savepoint s stands.
     fn stands(&self, s: usize) -> bool
-        ensures { result ≡ (nat_le 1 s && nat_le s self.now.levels) }
+        ensures { result ≡ (nat_le 1 s && nat_le s (length self.now.levels.items)) }
     {
-        s >= 1 && s <= self.levels
+        s >= 1 && s <= self.levels.len()
     }
 
     /// Removes savepoint s and all above it. Their saved pages pass to the one below, each once, or
     /// are dropped. Nothing that is held changes.
     pub fn release(&mut self, s: usize) -> Result<(), Refusal>
-        ensures refusal { refused result ≡ (if leb 1 s && nat_le s self.old.levels then None else Some NoSavepoint) }
+        ensures refusal { refused result ≡ (if leb 1 s && nat_le s (length self.old.levels.items) then None else Some NoSavepoint) }
         ensures kept { (refused result ≢ None) → self.new ≡ self.old }
         ensures count { self.new.count ≡ self.old.count }
         ensures done { refused result ≡ None → (files : ℕ → List ℕ) → view files self.new ≡ released s (view files self.old) }
@@ -53,9 +50,8 @@ impl Memory {
         if !self.stands(s) {
             return Err(Refusal::NoSavepoint);
         }
-        let saved = self.saved.passed_down(s);
-        self.saved = saved;
-        self.levels = s - 1;
+        self.saved = self.saved.passed_down(s);
+        self.levels.truncate(s - 1);
         Ok(())
     }
 }

@@ -1,5 +1,5 @@
 // Writing a page.
-ghost use Rattle.std.specs.Prelude.{◌≡◌, ℕ, ◌+◌, ◌<◌, ◌≤◌, Bool, true, false, cond, not, ◌&&◌, List, length as count_of, take, is_some, Some, None, Ok, Err, ◌==◌, ◌≢◌, nat_le, slice_index};
+ghost use Rattle.std.specs.Prelude.{◌≡◌, ℕ, ◌+◌, ◌<◌, ◌≤◌, Bool, true, false, cond, not, ◌&&◌, List, length as count_of, is_some, Some, None, Ok, Err, ◌==◌, ◌≢◌, nat_le, slice_index};
 ghost use Rattle.std.specs.Option.{option_map};
 ghost use Rattle.pager.specs.Changed.{look};
 ghost use Rattle.pager.specs.Machine.{written};
@@ -29,7 +29,7 @@ impl Memory {
     fn is_to_save(&self, database: usize, page: u32) -> bool
         ensures { result ≡ to_save self.now database page }
     {
-        self.levels >= 1 && !self.saved.has(self.levels, database, page)
+        self.levels.len() >= 1 && !self.saved.has(self.levels.len(), database, page)
     }
 
     /// Whether 32 pages are changed, and this one is not among them.
@@ -42,7 +42,7 @@ impl Memory {
 
     /// Whether 32 pages are saved, and one more is needed.
     fn lacks_saved_room(&self, database: usize, page: u32) -> bool
-        ensures { result ≡ (self.now.saved.used == 32 && to_save self.now database page) }
+        ensures { result ≡ (count_of self.now.saved.rows.items == 32 && to_save self.now database page) }
     {
         self.saved.is_full() && self.is_to_save(database, page)
     }
@@ -52,25 +52,23 @@ impl Memory {
         requires { database < 4 }
         ensures { result ≡ was_of (look (fields self.now).changed database page) (nat_le page (slice_index self.now.sizes database)) }
     {
-        if let Some(bytes) = self.changed.get(database, page) {
-            return Was::Changed(*bytes);
+        match self.changed.get(database, page) {
+            Some(bytes) => Was::Changed(*bytes),
+            None if page <= self.sizes[database] => Was::Unchanged,
+            None => Was::Absent,
         }
-        if page <= self.sizes[database] {
-            return Was::Unchanged;
-        }
-        Was::Absent
     }
 
     /// The saved pages once the page is about to be written.
     fn saved_first(&self, database: usize, page: u32, was: Was) -> SavedPages
         requires was { was ≡ was_of (look (fields self.now).changed database page) (nat_le page (slice_index self.now.sizes database)) }
-        requires room { self.now.saved.used ≡ 32 → to_save self.now database page ≡ false }
-        ensures { take result.used result.rows ≡ saved_first self.now database page }
+        requires room { count_of self.now.saved.rows.items ≡ 32 → to_save self.now database page ≡ false }
+        ensures { result.rows.items ≡ saved_first self.now database page }
     {
         let mut saved = self.saved;
         if self.is_to_save(database, page) {
             saved.push(SavedPage {
-                level: self.levels,
+                level: self.levels.len(),
                 database,
                 page,
                 was,
@@ -79,26 +77,24 @@ impl Memory {
         saved
     }
 
-    /// Why the write is refused, if it is.
-    fn write_refusal(&self, database: usize, page: u32, length: usize) -> Option<Refusal>
-        ensures { result ≡ write_refusal self.now database page length }
+    /// That the write is not refused.
+    fn admit(&self, database: usize, page: u32, length: usize) -> Result<(), Refusal>
+        ensures { refused result ≡ write_refusal self.now database page length }
     {
-        if database >= self.count {
-            return Some(Refusal::NoDatabase);
-        }
+        self.known(database)?;
         if length != PAGE_SIZE {
-            return Some(Refusal::BufferLength);
+            return Err(Refusal::BufferLength);
         }
         if !self.is_allowed(database, page) {
-            return Some(Refusal::Page);
+            return Err(Refusal::Page);
         }
         if self.lacks_changed_room(database, page) {
-            return Some(Refusal::ChangedFull);
+            return Err(Refusal::ChangedFull);
         }
         if self.lacks_saved_room(database, page) {
-            return Some(Refusal::SavedFull);
+            return Err(Refusal::SavedFull);
         }
-        None
+        Ok(())
     }
 
     /// Writes a page of a database: replaces it, or adds the one after its last. The top savepoint
@@ -108,21 +104,17 @@ impl Memory {
         ensures kept { (refused result ≢ None) → self.new ≡ self.old }
         ensures count { self.new.count ≡ self.old.count }
         ensures done { refused result ≡ None → (files : ℕ → List ℕ) → view files self.new ≡ written database page bytes.now (view files self.old) }
-        ensures used { refused result ≡ None → self.new.changed.used ≡ cond (map_of self.old.maps database page) self.old.changed.used (self.old.changed.used + 1) }
+        ensures used { refused result ≡ None → count_of self.new.changed.rows.items ≡ cond (map_of self.old.maps database page) (count_of self.old.changed.rows.items) (count_of self.old.changed.rows.items + 1) }
         ensures saved { refused result ≡ None → (fields self.new).saved ≡ saved_first self.old database page }
     {
-        if let Some(refusal) = self.write_refusal(database, page, bytes.len()) {
-            return Err(refusal);
-        }
+        self.admit(database, page, bytes.len())?;
         let mut row = [0u8; PAGE_SIZE];
         row.copy_from_slice(bytes);
         let was = self.was(database, page);
         let saved = self.saved_first(database, page, was);
-        let mut map = self.maps[database];
-        map.insert(page);
         self.saved = saved;
         self.changed.put(database, page, row);
-        self.maps[database] = map;
+        self.maps[database].insert(page);
         self.sizes[database] = self.sizes[database].max(page);
         Ok(())
     }

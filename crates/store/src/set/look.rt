@@ -23,7 +23,7 @@ impl<C> Set<C> {
         ensures begun { result.begun ≡ 0 }
         ensures stored { result.stored.rows ≡ 1 ∷ 1 ∷ 1 ∷ 1 ∷ [] }
         ensures sizes { result.memory.sizes ≡ result.stored.rows }
-        ensures empty { (result.memory.changed.used ≡ 0) × (result.memory.saved.used ≡ 0) }
+        ensures empty { (result.memory.changed.rows.items ≡ []) × (result.memory.saved.rows.items ≡ []) }
         ensures view { (files : ℕ → List ℕ) → Stored files result.stored.rows → view files result.memory ≡ cleared files }
     {
         let stored = Sizes::ones();

@@ -1,5 +1,5 @@
 // Savepoints of the running transaction.
-ghost use Rattle.std.specs.Prelude.{◌≡◌, ℕ, ◌+◌, List, [], IfOk, None, ◌≢◌};
+ghost use Rattle.std.specs.Prelude.{◌≡◌, ℕ, ◌+◌, List, [], length, IfOk, None, ◌≢◌};
 ghost use Rattle.pager.specs.Machine.{pushed, released};
 ghost use Rattle.pager.specs.Saved.{gathered};
 ghost use Rattle.pager.specs.View.{view, fields};
@@ -16,7 +16,7 @@ impl<C> Set<C> {
     pub fn savepoint(&mut self, t: &Transaction) -> Result<usize, Refusal>
         ensures refusal { refused result ≡ savepoint_refusal self.old.mode self.old.begun t.now.number self.old.memory }
         ensures kept { (refused result ≢ None) → self.new ≡ self.old }
-        ensures number { IfOk result (λ k. (k ≡ self.old.memory.levels + 1) × (self.new.memory.levels ≡ k)) }
+        ensures number { IfOk result (λ k. (k ≡ length self.old.memory.levels.items + 1) × (length self.new.memory.levels.items ≡ k)) }
         ensures done { refused result ≡ None → (files : ℕ → List ℕ) → view files self.new.memory ≡ pushed (view files self.old.memory) }
         ensures stores { (self.new.memory.changed ≡ self.old.memory.changed) × (self.new.memory.saved ≡ self.old.memory.saved) }
         ensures others { ButMemory self.old self.new }

@@ -23,7 +23,7 @@ impl<C> Set<C> {
         ensures refusal { refused result ≡ writing_refusal self.old.mode self.old.begun t.now.number self.old.memory database page (count_of bytes.now) }
         ensures kept { (refused result ≢ None) → self.new ≡ self.old }
         ensures done { refused result ≡ None → (files : ℕ → List ℕ) → view files self.new.memory ≡ written database page bytes.now (view files self.old.memory) }
-        ensures used { refused result ≡ None → self.new.memory.changed.used ≡ cond (map_of self.old.memory.maps database page) self.old.memory.changed.used (self.old.memory.changed.used + 1) }
+        ensures used { refused result ≡ None → count_of self.new.memory.changed.rows.items ≡ cond (map_of self.old.memory.maps database page) (count_of self.old.memory.changed.rows.items) (count_of self.old.memory.changed.rows.items + 1) }
         ensures saved { refused result ≡ None → (fields self.new.memory).saved ≡ saved_first self.old.memory database page }
         ensures others { ButMemory self.old self.new }
     {

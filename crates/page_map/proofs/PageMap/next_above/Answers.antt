@@ -1,8 +1,11 @@
-use Rattle.std.proofs.Common.{◌≡◌, ℕ, ◌*◌, sym, subst, add-one, arith}
-use Rattle.std.proofs.lemmas.Nat.{div-add-mod'}
+use Rattle.std.proofs.Common.{◌≡◌, ℕ, ◌+◌, ◌-◌, ◌*◌, ◌/◌, not, eqb, sym, refl, ◌∙◌, subst, add-one, rules, arith}
+use borrow.Author.Tests.{tests}
+use Rattle.std.specs.List.{position}
+use Rattle.std.proofs.lemmas.Iterator.{YieldsList-from_slice}
+use Rattle.std.proofs.lemmas.Iterator.Search.{position_from_yields_List}
 use Rattle.page_map.specs.Sets.{NextAbove}
 use Rattle.page_map.specs.Words.{pages_of}
-use Rattle.page_map.proofs.Nexts.{Clear, next_page, no_page, first_here, first_word, clear_here, clear_next}
+use Rattle.page_map.proofs.Nexts.{Clear, next_page, no_page, first_here, first_word, clear_here, clear_to, rest_none, rest_some}
 use Rattle.page_map.proofs.Visits.{visit_law}
 use Rattle.page_map.proofs.PageMap.next_above.Goals as goal
 
@@ -11,9 +14,6 @@ returns-then-page-ge-PAGE_LIMIT c =
     let ws = c.args.self.now.words in
     record { next = no_page ws c.args.page (omega arith) (λ k a b. absurd (omega arith)); visit = visit_law (pages_of ws) }
 
-pub overflow_add-result : goal.overflow_add-result
-overflow_add-result c = let d = div-add-mod' c.args.page 64 in omega (arith, (first_here c.args.self.now.words c.args.page (omega arith) (λ z. omega arith)).1)
-
 pub returns-then-first-ne0 : goal.returns-then-first-ne0
 returns-then-first-ne0 c =
     let ws = c.args.self.now.words in
@@ -21,23 +21,24 @@ returns-then-first-ne0 c =
     let found = next_page ws p _ (first_here ws p (omega arith) (λ z. omega arith)).0 in
     record { next = subst (λ (n : ℕ). NextAbove (pages_of ws) p n) (sym (add-one _)) found; visit = visit_law (pages_of ws) }
 
-pub loop-j-init : goal.loop-j-init
-loop-j-init c = clear_here c.args.self.now.words c.args.page (omega arith)
-
-pub returns-then-w-ne0 : goal.returns-then-w-ne0
-returns-then-w-ne0 c =
+pub returns-in_err-j : goal.returns-in_err-j
+returns-in_err-j c =
     let ws = c.args.self.now.words in
     let p = c.args.page in
-    let d = div-add-mod' c.args.page 64 in
-    let found = next_page ws p _ (first_word ws p c.loop-j.j (omega arith) c.loop-j.invariant (omega arith) (λ z. omega arith)).0 in
-    record { next = subst (λ (n : ℕ). NextAbove (pages_of ws) p n) (sym (add-one _)) found; visit = visit_law (pages_of ws) }
-
-pub loop-j-preserved : goal.loop-j-preserved
-loop-j-preserved c = clear_next c.args.self.now.words c.args.page c.loop-j.j c.loop-j.invariant (omega arith)
+    let n = p / 64 + 1 in
+    let at : c.position.result ≡ position (λ w. not (eqb w 0)) c.iter.result.rest.now = position_from_yields_List (λ w. not (eqb w 0)) _ _ c.position.result c.position.ensures.ran (YieldsList-from_slice _ refl) (λ x b q k. search (rules, tests)) in
+    let clear = clear_to ws p n (clear_here ws p (omega arith)) (64 - n) (λ j lt. rest_none ws p n (omega arith) c.iter.result.rest.now c.iter.ensures.rest (sym at ∙ c.in_err-j.was) j (omega arith)) in
+    let e : (n + (64 - n)) * 64 ≡ 4096 = omega arith in
+    record { next = rw c.from_residual.ensures (no_page ws p (omega arith) (subst (λ (k : ℕ). Clear ws p k) e clear)); visit = visit_law (pages_of ws) }
 
 pub returns : goal.returns
 returns c =
     let ws = c.args.self.now.words in
     let p = c.args.page in
-    let e : c.loop-j.j * 64 ≡ 4096 = omega arith in
-    record { next = no_page ws p (omega arith) (subst (λ (n : ℕ). Clear ws p n) e c.loop-j.invariant); visit = visit_law (pages_of ws) }
+    let n = p / 64 + 1 in
+    let m = c.in_ok-j.field-0 in
+    let at : c.position.result ≡ position (λ w. not (eqb w 0)) c.iter.result.rest.now = position_from_yields_List (λ w. not (eqb w 0)) _ _ c.position.result c.position.ensures.ran (YieldsList-from_slice _ refl) (λ x b q k. search (rules, tests)) in
+    let some = rest_some ws p n (omega arith) c.iter.result.rest.now c.iter.ensures.rest m (sym at ∙ c.in_ok-j.was) in
+    let clear = clear_to ws p n (clear_here ws p (omega arith)) m some.2 in
+    let found = next_page ws p _ (first_word ws p (n + m) (omega arith) clear (omega arith) some.1).0 in
+    record { next = subst (λ (k : ℕ). NextAbove (pages_of ws) p k) (sym (add-one _)) found; visit = visit_law (pages_of ws) }

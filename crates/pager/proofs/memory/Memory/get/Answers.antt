@@ -8,5 +8,5 @@ returns c =
     let m = c.args.self.now in
     record {
       is = c.get.ensures;
-      changed = λ lt. linked m.maps m.changed.used (fields m).changed (fields m).saved m.levels m.sound c.args.database c.args.page lt ∙ sym (ap is_some c.get.ensures);
+      changed = λ lt. linked m c.args.database c.args.page lt ∙ sym (ap is_some c.get.ensures);
     }

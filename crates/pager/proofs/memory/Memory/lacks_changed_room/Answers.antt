@@ -9,12 +9,12 @@ pub returns-then-is_full : goal.returns-then-is_full
 unfolding map_of
 returns-then-is_full c =
     let m = c.args.self.now in
-    let all = in_all m.maps m.changed.used (fields m).changed (fields m).saved m.levels m.sound in
+    let all = in_all m in
     let full = ap (λ (n : ℕ). eqb n 32) (sym all) ∙ sym c.is_full.ensures ∙ c.if-is_full.true in
     sym (ap₂ (λ (a b : Bool). a && not b) full (sym c.contains.ensures))
 
 pub returns-else-is_full : goal.returns-else-is_full
 returns-else-is_full c =
     let m = c.args.self.now in
-    let all = in_all m.maps m.changed.used (fields m).changed (fields m).saved m.levels m.sound in
+    let all = in_all m in
     c.if-is_full.false ∙ sym (and_left _ _ (ap (λ (n : ℕ). eqb n 32) (sym all) ∙ sym c.is_full.ensures ∙ c.if-is_full.false))

@@ -1,16 +1,16 @@
-use Rattle.std.proofs.Common.{◌≡◌, ℕ, suc, false, [], sym, refl, ap, ◌∙◌, subst, add-one, arith}
+use Rattle.std.proofs.Common.{◌≡◌, ℕ, ◌+◌, suc, false, List, [], ◌∷◌, length, sym, refl, ap, ◌∙◌, subst, add-one, arith, length-append}
 use mathlib.Core.Logic.{∥∥₁_map}
-use Rattle.std.proofs.lemmas.Bool.{eq-eqb, ne_eqb, cond-true, cond-false}
+use Rattle.std.proofs.lemmas.Bool.{cond-true, cond-false, eq-eqb, both_ways}
 use Rattle.pager.specs.Saved.{has_from}
-use Rattle.pager.specs.View.{fields, stack, held_now}
+use Rattle.pager.specs.View.{Fields, fields, stack, held_now}
 use Rattle.pager.proofs.Keeps.{none_above, some_none}
 use Rattle.pager.proofs.Stack.{back_law}
 use Rattle.pager.proofs.Stacks.{with_sizes, stack_pushed, sound_pushed}
 use Rattle.pager.proofs.memory.Memory.push.Goals as goal
 
-pub returns-then-self-eq-SAVEPOINTS : goal.returns-then-self-eq-SAVEPOINTS
-returns-then-self-eq-SAVEPOINTS c = record {
-  refusal = sym (cond-true _ _ _ (eq-eqb c.args.self.now.levels 8 (omega arith)));
+pub returns-then-is_full : goal.returns-then-is_full
+returns-then-is_full c = record {
+  refusal = sym (cond-true _ _ _ (sym c.is_full.ensures ∙ c.if-is_full.true));
   kept = λ _. refl;
   count = refl;
   number = tt;
@@ -22,6 +22,9 @@ returns-then-self-eq-SAVEPOINTS c = record {
 pub invariant_of-self : goal.invariant_of-self
 invariant_of-self c =
     let m = c.args.self.now in
+    let n = length m.levels.items in
+    let long : length c.push.new.self.items ≡ n + 1 = ap length c.push.ensures ∙ length-append m.levels.items (m.sizes ∷ []) in
+    let room : (n ≡ 8 → ⊥) = λ e. both_ways _ (sym c.is_full.ensures ∙ c.if-is_full.false) (eq-eqb n 8 e) in
     record {
       few = m.few;
       low = omega arith;
@@ -29,7 +32,7 @@ invariant_of-self c =
           (λ s. record {
             link = s.link;
             all = s.all;
-            below = subst (λ (n : ℕ). (d p : ℕ) → has_from (suc n) (fields m).saved d p ≡ false) (sym (add-one m.levels)) (sound_pushed (λ _. []) (fields m) m.levels s.below (omega arith));
+            below = subst (λ (k : ℕ). (d p : ℕ) → has_from (suc k) (fields m).saved d p ≡ false) (sym (long ∙ add-one n)) (sound_pushed (λ _. []) (fields m) n s.below refl);
           });
     }
 
@@ -37,15 +40,18 @@ pub returns : goal.returns
 unfolding with_sizes
 returns c =
     let m = c.args.self.now in
-    let below = none_above m.maps m.changed.used (fields m).changed (fields m).saved m.levels m.sound in
+    let n = length m.levels.items in
+    let long : length c.push.new.self.items ≡ n + 1 = ap length c.push.ensures ∙ length-append m.levels.items (m.sizes ∷ []) in
+    let with : List (List ℕ) → Fields = λ l. record { sizes = m.sizes; maps = m.maps; changed = (fields m).changed; saved = (fields m).saved; level_sizes = l } in
     record {
-      refusal = sym (cond-false _ _ _ (ne_eqb m.levels 8 (λ e. omega arith)));
+      refusal = sym (cond-false _ _ _ (sym c.is_full.ensures ∙ c.if-is_full.false));
       kept = λ some. absurd (some refl);
       count = refl;
-      number = (refl, refl);
+      number = (c.len.ensures.is ∙ long, sym c.len.ensures.is);
       done = λ _ files.
-          let g = with_sizes files (fields m) m.levels below (omega arith) in
-          let s = ap (stack files g) (add-one m.levels) ∙ stack_pushed files (fields m) m.levels below (omega arith) in
+          let s =
+          ap (stack files (with c.push.new.self.items)) (long ∙ add-one n) ∙ ap (λ (l : List (List ℕ)). stack files (with l) (suc n)) c.push.ensures
+          ∙ stack_pushed files (fields m) n (none_above m) refl in
           λ i. record { held = held_now files (fields m); savepoints = s i };
       stores = (refl, refl);
       back = back_law;

@@ -1,4 +1,4 @@
-use Rattle.std.proofs.Common.{suc, ◌-◌, leb, List, [], sym, refl, ap, ◌∙◌, arith}
+use Rattle.std.proofs.Common.{◌≡◌, ℕ, suc, ◌-◌, leb, List, [], length, take, sym, refl, ap, ◌∙◌, arith, length-take-le}
 use mathlib.Core.Logic.{∥∥₁_map}
 use Rattle.std.proofs.lemmas.Bool.{cond-true, cond-false, and_parts, leb-true}
 use Rattle.pager.specs.declared.saved_page.SavedPage.{SavedPage}
@@ -24,17 +24,21 @@ pub invariant_of-self : goal.invariant_of-self
 invariant_of-self c =
     let m = c.args.self.now in
     let s = c.args.s in
+    let n = length m.levels.items in
     let is = sym c.stands.ensures ∙ c.if-not-stands.false in
-    let low = leb-true 1 s (and_parts (leb 1 s) (leb s m.levels) is).0 in
-    let high = leb-true s m.levels (and_parts (leb 1 s) (leb s m.levels) is).1 in
+    let low = leb-true 1 s (and_parts (leb 1 s) (leb s n) is).0 in
+    let high = leb-true s n (and_parts (leb 1 s) (leb s n) is).1 in
+    let long : length c.truncate.new.self.items ≡ s - 1 = ap length c.truncate.ensures ∙ length-take-le (s - 1) m.levels.items (omega arith) in
     record {
       few = m.few;
-      low = omega arith;
+      low = omega (arith, m.low);
       sound = ∥∥₁_map m.sound
           (λ old. record {
             link = old.link;
             all = old.all;
-            below = λ d p. ap (λ (l : List SavedPage). has_from (suc (s - 1)) l d p) c.passed_down-saved.ensures ∙ sound_released (λ _. []) (fields m) s m.levels low high old.below d p;
+            below = λ d p.
+                ap (λ (k : ℕ). has_from (suc k) c.passed_down-self.result.rows.items d p) long
+                ∙ ap (λ (l : List SavedPage). has_from (suc (s - 1)) l d p) c.passed_down-self.ensures ∙ sound_released (λ _. []) (fields m) s n low high old.below d p;
           });
     }
 
@@ -43,19 +47,24 @@ unfolding passed_fields
 returns c =
     let m = c.args.self.now in
     let s = c.args.s in
+    let n = length m.levels.items in
     let is = sym c.stands.ensures ∙ c.if-not-stands.false in
-    let low = leb-true 1 s (and_parts (leb 1 s) (leb s m.levels) is).0 in
-    let high = leb-true s m.levels (and_parts (leb 1 s) (leb s m.levels) is).1 in
-    let below = none_above m.maps m.changed.used (fields m).changed (fields m).saved m.levels m.sound in
-    let with : List SavedPage → Fields = λ l. record { sizes = m.sizes; maps = m.maps; changed = (fields m).changed; saved = l; level_sizes = m.level_sizes } in
+    let low = leb-true 1 s (and_parts (leb 1 s) (leb s n) is).0 in
+    let high = leb-true s n (and_parts (leb 1 s) (leb s n) is).1 in
+    let long : length c.truncate.new.self.items ≡ s - 1 = ap length c.truncate.ensures ∙ length-take-le (s - 1) m.levels.items (omega arith) in
+    let with : List SavedPage → List (List ℕ) → Fields = λ l k. record { sizes = m.sizes; maps = m.maps; changed = (fields m).changed; saved = l; level_sizes = k } in
     record {
       refusal = sym (cond-true _ _ _ is);
       kept = λ some. absurd (some refl);
       count = refl;
       done = λ _ files.
-          let st = ap (λ (l : List SavedPage). stack files (with l) (s - 1)) c.passed_down-saved.ensures ∙ stack_released files (fields m) s m.levels low high below in
+          let st =
+          ap (stack files (with c.passed_down-self.result.rows.items c.truncate.new.self.items)) long
+          ∙ ap (λ (k : List (List ℕ)). stack files (with c.passed_down-self.result.rows.items k) (s - 1)) c.truncate.ensures
+          ∙ ap (λ (l : List SavedPage). stack files (with l (take (s - 1) m.levels.items)) (s - 1)) c.passed_down-self.ensures
+          ∙ stack_released files (fields m) s n low high (none_above m) in
           λ i. record { held = held_now files (fields m); savepoints = st i };
-      saved = λ _. c.passed_down-saved.ensures;
+      saved = λ _. c.passed_down-self.ensures;
       changed = refl;
       law = release_law;
     }
