@@ -33,11 +33,8 @@ fn fill(
     ensures { Filled buffer.old nonce size pages.now (super_of (named names.now.rows names.now.lens names.now.count) linked) (Ok result) buffer.new }
 {
     let file = names.file(SUPER_JOURNAL);
-    let name = if linked { Some(file.bytes()) } else { None };
-    let Ok(length) = fill_journal(buffer, nonce, size, pages, name) else {
-        unreachable()
-    };
-    length
+    let name = linked.then_some(file.bytes());
+    fill_journal(buffer, nonce, size, pages, name).unwrap()
 }
 
 /// Makes the journal of a database: creates it, reads the originals that it records, stores it whole
@@ -64,13 +61,13 @@ pub fn make_journal<C: Card>(
     let site = Site::new(Step::C2, DATABASES + database);
     site.create(card, journal.bytes())?;
     let recorded = recorded_pages(memory, database, size);
-    let pages = &recorded.rows[0..recorded.count];
+    let pages = recorded.as_slice();
     read_originals(card, file.bytes(), database, pages, buffer)?;
     let length = fill(buffer, nonce, size, pages, names, linked);
     site.told(store_journal(
         card,
         journal.bytes(),
         &buffer[0..length],
-        recorded.count as u32,
+        pages.len() as u32,
     ))
 }

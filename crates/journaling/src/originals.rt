@@ -51,8 +51,8 @@ pub fn read_originals<C: Card>(
     ensures went { Went C.Card.meaning (read_tasks name.now database 1 pages.now) card.old result card.new }
     ensures read { RecordedIn (contents (C.Card.meaning.holds card.old name.now)) pages.now result buffer.new }
 {
-    for index in 0..pages.len() {
-        read_original(card, name, database, pages[index], index, buffer)?;
+    for (index, page) in pages.iter().enumerate() {
+        read_original(card, name, database, *page, index, buffer)?;
     }
     Ok(())
 }

@@ -1,36 +1,23 @@
-use Rattle.std.proofs.Common.{◌≡◌, ℕ, ◌≤◌, length, Ok, Err, Option, ap, ◌∙◌, subst, arith}
+use Rattle.std.proofs.Common.{ℕ, ◌≤◌, length, ap, ◌∙◌, arith}
 use Rattle.std.proofs.lemmas.List.{length-take}
 use Rattle.card.specs.Meaning.{Name}
-use Rattle.journal_writer.specs.Written.{Filled, told}
 use Rattle.names.specs.Names.{named}
 use Rattle.names.proofs.Files.{named_super}
-use Rattle.journaling.specs.Plan.{super_of}
-use Rattle.journaling.proofs.Fills.{name_linked, name_free, not_refused}
+use Rattle.journaling.proofs.Fills.{name_passed, not_refused}
 use Rattle.journaling.proofs.journals.fill.Goals as goal
 
-pub unreachable-requires : goal.unreachable-requires
-unreachable-requires c =
+pub unwrap-requires : goal.unwrap-requires
+unwrap-requires c =
     let names = c.args.names.now in
     let file : ℕ → Name = named names.rows names.lens names.count in
-    let is : told c.if-linked.name ≡ super_of file c.args.linked =
-    elim c.if-linked.branch [
-      | goal.then-linked w ↦ name_linked file _ _ _ w.name-is (w.bytes.ensures ∙ c.file-file.ensures) w.if-linked.true
-      | goal.else-linked w ↦ name_free file _ _ w.name-is w.if-linked.false
-    ] in
-    let row = c.file-file.result.row in
-    let n = c.file-file.result.length in
+    let is = name_passed file c.then_some-name.result c.args.linked c.bytes.result c.then_some-name.ensures (c.bytes.ensures ∙ c.file-file.ensures) in
     let low : 1 ≤ length (file 8) = omega (arith, named_super names.rows names.lens names.count) in
-    let high : length (file 8) ≤ 32 = omega (arith, ap length c.file-file.ensures, length-take n row, c.file-file.result.short) in
-    not_refused file c.args.linked c.args.buffer.now c.fill_journal.new.buffer c.args.nonce c.args.size c.args.pages.now c.in_default.field-0 c.requires.some c.requires.small c.requires.pages low high c.told-buffer
-    (subst (λ (o : Option Name). Filled c.args.buffer.now c.args.nonce c.args.size c.args.pages.now o (Err c.in_default.field-0) c.fill_journal.new.buffer) is c.in_default.ensures)
+    let high : length (file 8) ≤ 32 = omega (arith, ap length c.file-file.ensures, length-take c.file-file.result.length c.file-file.result.row, c.file-file.result.short) in
+    not_refused file c.args.linked _ _ _ _ _ c.fill_journal.result c.requires.some c.requires.small c.requires.pages low high c.told-buffer (rw is at c.fill_journal.ensures)
 
 pub returns : goal.returns
 returns c =
     let names = c.args.names.now in
     let file : ℕ → Name = named names.rows names.lens names.count in
-    let is : told c.if-linked.name ≡ super_of file c.args.linked =
-    elim c.if-linked.branch [
-      | goal.then-linked w ↦ name_linked file _ _ _ w.name-is (w.bytes.ensures ∙ c.file-file.ensures) w.if-linked.true
-      | goal.else-linked w ↦ name_free file _ _ w.name-is w.if-linked.false
-    ] in
-    subst (λ (o : Option Name). Filled c.args.buffer.now c.args.nonce c.args.size c.args.pages.now o (Ok c.in-Ok.length) c.fill_journal.new.buffer) is c.in-Ok.ensures
+    let is = name_passed file c.then_some-name.result c.args.linked c.bytes.result c.then_some-name.ensures (c.bytes.ensures ∙ c.file-file.ensures) in
+    rw (is, c.unwrap.ensures) at c.fill_journal.ensures

@@ -24,10 +24,6 @@ use Rattle.journaling.proofs.Readings.{read_as}
 use Rattle.journaling.proofs.Makes.{not_created, not_read, stored_whole}
 use Rattle.journaling.proofs.journals.make_journal.Goals as goal
 
--- the pages that are passed
-passed : (count : ℕ) (rows list : List ℕ) → take count rows ≡ list → take (count - 0) rows ≡ list
-passed count rows list e = ap (λ (k : ℕ). take k rows) (sub-zero count) ∙ e
-
 pub returns-in_err-create : goal.returns-in_err-create
 returns-in_err-create g c =
     let m : Meaning g.row.C.Denot = g.C.Card.meaning in
@@ -46,9 +42,9 @@ returns-in_err-create g c =
 pub read_originals-requires : goal.read_originals-requires
 read_originals-requires g c =
     let s = map_of c.args.memory.now.maps c.args.database in
-    let is = passed c.recorded_pages-recorded.result.count c.recorded_pages-recorded.result.rows (recorded s c.args.size) c.recorded_pages-recorded.ensures in
+    let is = c.as_slice-pages.ensures.is ∙ c.recorded_pages-recorded.ensures in
     record {
-      few = omega (arith, length-take (c.recorded_pages-recorded.result.count - 0) c.recorded_pages-recorded.result.rows, c.recorded_pages-recorded.result.few);
+      few = c.as_slice-pages.ensures.few;
       pages = subst PagesOk (sym is) (recorded_ok s c.args.size c.requires.some c.requires.small);
     }
 
@@ -63,7 +59,7 @@ returns-in_err-read_originals g c =
     let s = map_of c.args.memory.now.maps d in
     let ch : Change = record { database = d; stored = contents (m.holds start (file d)); size = c.args.size; recorded = recorded s c.args.size; pages = [] } in
     let created = went_as m start c.create.new.card (Ok tt) _ (at C2 (4 + d)) _ (file (4 + d)) create create c.new-site.ensures (c.bytes.ensures ∙ c.file-journal.ensures) refl c.in_ok-create.ensures in
-    let is = passed c.recorded_pages-recorded.result.count c.recorded_pages-recorded.result.rows (recorded s c.args.size) c.recorded_pages-recorded.ensures in
+    let is = c.as_slice-pages.ensures.is ∙ c.recorded_pages-recorded.ensures in
     let p = err_from_is_err_and c.from_residual-in_err-read_originals.result c.from_residual-in_err-read_originals.ensures.1 in
     let f = c.in_err-read_originals.field-0.0 in
     let last = c.read_originals.new.card in
@@ -74,7 +70,7 @@ returns-in_err-read_originals g c =
 pub fill-length-requires : goal.fill-length-requires
 fill-length-requires g c =
     let s = map_of c.args.memory.now.maps c.args.database in
-    let is = passed c.recorded_pages-recorded.result.count c.recorded_pages-recorded.result.rows (recorded s c.args.size) c.recorded_pages-recorded.ensures in
+    let is = c.as_slice-pages.ensures.is ∙ c.recorded_pages-recorded.ensures in
     record {
       some = c.requires.some;
       small = c.requires.small;
@@ -94,7 +90,7 @@ returns g c =
     let s = map_of c.args.memory.now.maps d in
     let ch : Change = record { database = d; stored = contents (m.holds start (file d)); size = c.args.size; recorded = recorded s c.args.size; pages = [] } in
     let created = went_as m start c.create.new.card (Ok tt) _ (at C2 (4 + d)) _ (file (4 + d)) create create c.new-site.ensures (c.bytes.ensures ∙ c.file-journal.ensures) refl c.in_ok-create.ensures in
-    let is = passed c.recorded_pages-recorded.result.count c.recorded_pages-recorded.result.rows (recorded s c.args.size) c.recorded_pages-recorded.ensures in
+    let is = c.as_slice-pages.ensures.is ∙ c.recorded_pages-recorded.ensures in
     let first = c.create.new.card in
     let second = c.read_originals.new.card in
     let last = c.store_journal.new.card in
@@ -102,7 +98,7 @@ returns g c =
     let old = c.read_originals.new.buffer in
     let new = c.fill-length.new.buffer in
     let n = c.fill-length.result in
-    let pages = take (c.recorded_pages-recorded.result.count - 0) c.recorded_pages-recorded.result.rows in
+    let pages = c.as_slice-pages.result.now in
     let read = read_as m first second d (Ok tt) _ (file d) _ (recorded s c.args.size) name is c.in_ok-read_originals.ensures.went in
     let lies : originals old 0 (recorded s c.args.size) ≡ map (original (contents (m.holds first (file d)))) (recorded s c.args.size) =
     subst (λ (ps : List ℕ). originals old 0 ps ≡ map (original (contents (m.holds first (file d)))) ps) is
@@ -111,7 +107,7 @@ returns g c =
     subst (λ (ps : List ℕ). Filled old c.args.nonce c.args.size ps super (Ok n) new) is c.fill-length.ensures in
     let apart = named_apart names.rows names.lens names.count d (4 + d) names.apart (a_database c.requires.listed) (a_journal c.requires.listed) (λ e. omega arith) in
     let stored = went_acted m second last c.new-site.result _ c.store_journal.result c.told.result c.told.ensures c.store_journal.ensures in
-    stored_whole m file c.args.nonce super ch start first created second old new n c.recorded_pages-recorded.result.count read refl apart lies filled last c.told.result
-    (omega (arith, ap length c.recorded_pages-recorded.ensures, length-take c.recorded_pages-recorded.result.count c.recorded_pages-recorded.result.rows, c.recorded_pages-recorded.result.few))
+    stored_whole m file c.args.nonce super ch start first created second old new n (length pages) read refl apart lies filled last c.told.result
+    (ap length is)
     (subst (λ (ts : List Task). Went m ts second c.told.result last)
-    (ap₂ (λ (x : Site) (b : Name). tasks x (store_acts b (take (n - 0) new) c.recorded_pages-recorded.result.count)) c.new-site.ensures (c.bytes-3.ensures ∙ c.file-journal.ensures)) stored)
+    (ap₂ (λ (x : Site) (b : Name). tasks x (store_acts b (take (n - 0) new) (length pages))) c.new-site.ensures (c.bytes-3.ensures ∙ c.file-journal.ensures)) stored)
