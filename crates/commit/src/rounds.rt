@@ -10,7 +10,7 @@ ghost use Rattle.commit.specs.Works.{files, listed, several};
 use crate::work::Work;
 use card::Card;
 use journal::JOURNAL_LIMIT;
-use journaling::make_journal;
+use journaling::Journals;
 use names::DATABASES;
 use page_writer::write_pages;
 use refusal::{SetFault, Step};
@@ -28,19 +28,14 @@ impl Work<'_> {
     ) -> Result<(), SetFault>
         ensures { (stored : ℕ → List ℕ) → ((k : ℕ) → k < self.now.names.now.count → contents (C.Card.meaning.holds card.old (files self.now k)) ≡ stored k) → Went C.Card.meaning (for_each (λ d. journal_tasks (files self.now) nonce (super_of (files self.now) (several self.now)) (change_of stored sizes.now.rows self.now.memory.now d)) (listed self.now)) card.old result card.new }
     {
-        let linked = self.many();
+        let journals = Journals {
+            names: self.names,
+            memory: self.memory,
+            nonce,
+            linked: self.many(),
+        };
         for database in self.changed() {
-            let size = sizes.get(*database);
-            make_journal(
-                card,
-                self.names,
-                self.memory,
-                *database,
-                size,
-                nonce,
-                linked,
-                buffer,
-            )?;
+            journals.make(card, *database, sizes.get(*database), buffer)?;
         }
         Ok(())
     }

@@ -169,9 +169,3 @@ module _ {C : Type 0} (m : Meaning C) (n : Name) (d : ℕ) (pages : List ℕ) (c
 
     pub all_lie : RecordedIn (contents (m.holds c₀ n)) pages (Ok tt) buf
     all_lie = subst (λ (ps : List ℕ). originals buf 0 ps ≡ map (original (contents (m.holds c₀ n))) ps) (take_all i pages past) g.lies
-
--- the same pages of the same file, said in other words
-pub read_as :
-    {C V : Type 0} (m : Meaning C) (c c' : C) (d : ℕ) (r : Result V SetFault) (n n' : Name) (ps ps' : List ℕ) → n ≡ n' → ps ≡ ps' →
-    Went m (read_tasks n d 1 ps) c r c' → Went m (read_tasks n' d 1 ps') c r c'
-read_as m c c' d r n n' ps ps' en ep w = subst (λ (ts : List Task). Went m ts c r c') (ap₂ (λ (n : Name) (ps : List ℕ). read_tasks n d 1 ps) en ep) w

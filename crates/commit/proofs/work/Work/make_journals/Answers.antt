@@ -22,19 +22,19 @@ loop-database-preserved g c =
     let w = c.args.self.now in
     let i = c.loop-database.database-index in
     let below = c.changed-database-items.ensures.named i c.loop-database-test.true in
-    making_more _ _ _ _ _ _ _ _ _ i _ _ c.loop-database-test.true c.get-size.result below (c.get-size.ensures.is (omega (arith, below, w.names.now.few))) (λ k low. not_journal w _ k below low) c.loop-database.invariant
-    (rw c.many-linked.ensures at c.in_ok-make_journal.ensures)
+    making_more _ _ _ _ _ _ _ _ _ i _ _ c.loop-database-test.true c.get.result below (c.get.ensures.is (omega (arith, below, w.names.now.few))) (λ k low. not_journal w _ k below low) c.loop-database.invariant
+    (rw c.many.ensures at c.in_ok-make.ensures)
 
-pub returns-in_err-make_journal : goal.returns-in_err-make_journal
-returns-in_err-make_journal g c =
+pub returns-in_err-make : goal.returns-in_err-make
+returns-in_err-make g c =
     let w = c.args.self.now in
     let i = c.loop-database.database-index in
     let below = c.changed-database-items.ensures.named i c.loop-database-test.true in
     let p = err_from_is_err_and c.from_residual.result c.from_residual.ensures.1 in
     λ stored s.
     rw (p.1, p.2)
-    (making_stop _ _ _ _ _ _ _ _ _ i _ _ c.loop-database-test.true c.get-size.result below (c.get-size.ensures.is (omega (arith, below, w.names.now.few))) (λ k low. not_journal w _ k below low) c.loop-database.invariant
-    _ c.changed-database-items.ensures.is _ (rw c.many-linked.ensures at c.in_err-make_journal.ensures) stored s)
+    (making_stop _ _ _ _ _ _ _ _ _ i _ _ c.loop-database-test.true c.get.result below (c.get.ensures.is (omega (arith, below, w.names.now.few))) (λ k low. not_journal w _ k below low) c.loop-database.invariant
+    _ c.changed-database-items.ensures.is _ (rw c.many.ensures at c.in_err-make.ensures) stored s)
 
 pub returns : goal.returns
 returns g c =
