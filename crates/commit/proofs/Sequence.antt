@@ -1,6 +1,7 @@
 -- The parts of a commit, one after the other, are its plan.
 use Rattle.std.proofs.Common.{◌≡◌, ℕ, ◌+◌, ◌<◌, Bool, true, false, cond, List, [], ◌∷◌, ◌++◌, map, length, leb, Ok, Err, Result, sym, refl, ap, ◌∙◌, subst, ap₂, inr, arith}
 use Rattle.std.proofs.lemmas.List.{length-map}
+use Rattle.std.proofs.lemmas.Simd.{map-map}
 use Rattle.std.specs.List.{AllByRecursion}
 use Rattle.card.specs.Meaning.{Meaning, Bytes, Name}
 use Rattle.card.specs.Calls.{delete}
@@ -20,10 +21,6 @@ use Rattle.commit.specs.declared.work.Work.{Work}
 use Rattle.commit.specs.Ended.{Committed, Dropped}
 use Rattle.commit.specs.Works.{files, listed, journals, several}
 use Rattle.commit.proofs.Turns.{each_map}
-
-map_map : {A B D : Type 0} (f : B → D) (g : A → B) (xs : List A) → map f (map g xs) ≡ map (λ x. f (g x)) xs
-map_map f g [] = refl
-map_map {A} {B} {D} f g (x ∷ xs) = ap (λ (l : List D). f (g x) ∷ l) (map_map f g xs)
 
 module _ {C : Type 0} (m : Meaning C) (w : Work) (nonce : ℕ) (base : List ℕ) (c : C) where
   abbrev file : ℕ → Name
@@ -59,7 +56,7 @@ module _ {C : Type 0} (m : Meaning C) (w : Work) (nonce : ℕ) (base : List ℕ)
   the_plan : plan file nonce chs ≡ opening ++ (making ++ (writing ++ closing))
   the_plan =
       ap (λ (b : Bool). cond b (super_tasks file chs) [] ++ (for_each (journal_tasks file nonce (super_of file b)) chs ++ (for_each (change_tasks file) chs ++ cond b (call file C4 8 delete ∷ []) (for_each (only_tasks file) chs)))) (sym several_is)
-      ∙ ap₂ (λ (a b : List Task). a ++ b) (ap (λ (ns : List Name). cond (several w) (naming_tasks file ns) []) (map_map (journal_name file) change (listed w)))
+      ∙ ap₂ (λ (a b : List Task). a ++ b) (ap (λ (ns : List Name). cond (several w) (naming_tasks file ns) []) (map-map (journal_name file) change (listed w)))
       (ap₂ (λ (a b : List Task). a ++ b) (each_map (journal_tasks file nonce (super_of file (several w))) change (listed w))
       (ap₂ (λ (a b : List Task). a ++ b) (each_map (change_tasks file) change (listed w))
       (ap (λ (ts : List Task). cond (several w) (call file C4 8 delete ∷ []) ts) (each_map (only_tasks file) change (listed w)))))
@@ -67,7 +64,7 @@ module _ {C : Type 0} (m : Meaning C) (w : Work) (nonce : ℕ) (base : List ℕ)
   the_drops : drops file chs ≡ dropping
   the_drops =
       ap (λ (b : Bool). cond b (map (λ ch. record { name = journal_name file ch; op = delete }) chs) []) (sym several_is)
-      ∙ ap (λ (acts : List Act). cond (several w) acts []) (map_map (λ ch. record { name = journal_name file ch; op = delete }) change (listed w))
+      ∙ ap (λ (acts : List Act). cond (several w) acts []) (map-map (λ ch. record { name = journal_name file ch; op = delete }) change (listed w))
 
   -- the commit ended so
   abbrev pub Ends : Result ℕ SetFault → C → Type 0
