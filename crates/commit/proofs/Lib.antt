@@ -1,4 +1,5 @@
 pub mod Turns
+pub mod Listed
 pub mod Making
 pub mod Listing
 pub mod Trying

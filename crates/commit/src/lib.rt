@@ -6,5 +6,6 @@
 mod rounds;
 mod supers;
 mod whole;
+mod work;
 
 pub use whole::commit;

@@ -1,81 +1,64 @@
 // Rounds through the databases that a commit changes, in order.
-ghost use Rattle.std.specs.Prelude.{◌≡◌, ℕ, ◌+◌, ◌<◌, List, [], ◌∷◌, ◌++◌, length as count_of};
+ghost use Rattle.std.specs.Prelude.{◌≡◌, ℕ, ◌+◌, ◌<◌, List, [], ◌∷◌};
 ghost use Rattle.card.specs.Calls.Op.{delete as deletes};
-ghost use Rattle.names.specs.Names.{named};
-ghost use Rattle.refusal.specs.declared.step.Step.TheVariants.{C3, C4};
+ghost use Rattle.refusal.specs.declared.step.Step.TheVariants.{C4};
 ghost use Rattle.steps.specs.Tasks.{Went};
-ghost use Rattle.journaling.specs.Plan.{for_each, call, change_tasks, only_tasks, journal_tasks, super_of};
-ghost use Rattle.journaling.specs.Changes.{changed_list, change_of, contents};
+ghost use Rattle.journaling.specs.Plan.{for_each, call, change_tasks, journal_tasks, super_of};
+ghost use Rattle.journaling.specs.Changes.{change_of, contents};
+ghost use Rattle.commit.specs.Works.{files, listed, several};
 
+use crate::work::Work;
 use card::Card;
 use journal::JOURNAL_LIMIT;
-use journaling::{is_changed, make_journal};
-use names::{DATABASES, Names};
+use journaling::Journals;
+use names::DATABASES;
 use page_writer::write_pages;
-use pager::Memory;
 use refusal::{SetFault, Step};
 use sizes::Sizes;
 use steps::Site;
 
-/// How many of the first databases have a changed page.
-pub fn changed_databases(memory: &Memory, count: usize) -> usize
-    ensures { result ≡ count_of (changed_list memory.now count) }
-{
-    let mut changed = 0;
-    for database in 0..count {
-        if is_changed(memory, database) {
-            changed += 1;
+impl Work<'_> {
+    /// Makes the journal of each changed database. It names the super-journal if there are two or more.
+    pub fn make_journals<C: Card>(
+        &self,
+        card: &mut C,
+        sizes: &Sizes,
+        nonce: u32,
+        buffer: &mut [u8; JOURNAL_LIMIT],
+    ) -> Result<(), SetFault>
+        ensures { (stored : ℕ → List ℕ) → ((k : ℕ) → k < self.now.names.now.count → contents (C.Card.meaning.holds card.old (files self.now k)) ≡ stored k) → Went C.Card.meaning (for_each (λ d. journal_tasks (files self.now) nonce (super_of (files self.now) (several self.now)) (change_of stored sizes.now.rows self.now.memory.now d)) (listed self.now)) card.old result card.new }
+    {
+        let journals = Journals {
+            names: self.names,
+            memory: self.memory,
+            nonce,
+            linked: self.many(),
+        };
+        for database in self.changed() {
+            journals.make(card, *database, sizes.get(*database), buffer)?;
         }
+        Ok(())
     }
-    changed
-}
 
-/// Writes the changed pages of each database.
-pub fn write_databases<C: Card>(
-    card: &mut C,
-    names: &Names,
-    memory: &Memory,
-) -> Result<(), SetFault>
-    ensures { (stored : ℕ → List ℕ) (base : List ℕ) → Went C.Card.meaning (for_each (λ d. change_tasks (named names.now.rows names.now.lens names.now.count) (change_of stored base memory.now d)) (changed_list memory.now names.now.count)) card.old result card.new }
-{
-    for database in 0..names.count() {
-        if is_changed(memory, database) {
-            write_pages(card, names, memory, database)?;
+    /// Writes the changed pages of each changed database.
+    pub fn write_databases<C: Card>(&self, card: &mut C) -> Result<(), SetFault>
+        ensures { (stored : ℕ → List ℕ) (base : List ℕ) → Went C.Card.meaning (for_each (λ d. change_tasks (files self.now) (change_of stored base self.now.memory.now d)) (listed self.now)) card.old result card.new }
+    {
+        for database in self.changed() {
+            write_pages(card, self.names, self.memory, *database)?;
         }
+        Ok(())
     }
-    Ok(())
-}
 
-/// Deletes the journal of each database: with one, that is the deletion that makes the commit count.
-pub fn delete_only<C: Card>(card: &mut C, names: &Names, memory: &Memory) -> Result<(), SetFault>
-    ensures { Went C.Card.meaning (for_each (λ d. call (named names.now.rows names.now.lens names.now.count) C4 (4 + d) deletes ∷ []) (changed_list memory.now names.now.count)) card.old result card.new }
-{
-    for database in 0..names.count() {
-        if is_changed(memory, database) {
-            let journal = names.file(DATABASES + database);
-            Site::new(Step::C4, DATABASES + database).delete(card, journal.bytes())?;
+    /// Deletes the journal of each changed database: with one, that is the deletion that makes the commit
+    /// count.
+    pub fn delete_journals<C: Card>(&self, card: &mut C) -> Result<(), SetFault>
+        ensures { Went C.Card.meaning (for_each (λ d. call (files self.now) C4 (4 + d) deletes ∷ []) (listed self.now)) card.old result card.new }
+    {
+        for database in self.changed() {
+            let journal = self.names.file(DATABASES + *database);
+            Site::new(Step::C4, DATABASES + *database).delete(card, journal.bytes())?;
         }
+        Ok(())
     }
-    Ok(())
-}
-
-/// Makes the journal of each database.
-pub fn make_journals<C: Card>(
-    card: &mut C,
-    names: &Names,
-    memory: &Memory,
-    sizes: &Sizes,
-    nonce: u32,
-    linked: bool,
-    buffer: &mut [u8; JOURNAL_LIMIT],
-) -> Result<(), SetFault>
-    ensures { (stored : ℕ → List ℕ) → ((k : ℕ) → k < names.now.count → contents (C.Card.meaning.holds card.old (named names.now.rows names.now.lens names.now.count k)) ≡ stored k) → Went C.Card.meaning (for_each (λ d. journal_tasks (named names.now.rows names.now.lens names.now.count) nonce (super_of (named names.now.rows names.now.lens names.now.count) linked) (change_of stored sizes.now.rows memory.now d)) (changed_list memory.now names.now.count)) card.old result card.new }
-{
-    for database in 0..names.count() {
-        if is_changed(memory, database) {
-            let size = sizes.get(database);
-            make_journal(card, names, memory, database, size, nonce, linked, buffer)?;
-        }
-    }
-    Ok(())
 }

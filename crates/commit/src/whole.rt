@@ -4,8 +4,7 @@ ghost use Rattle.names.specs.Names.{named};
 ghost use Rattle.journaling.specs.Changes.{changes, contents};
 ghost use Rattle.commit.specs.Ended.{Committed};
 
-use crate::rounds::{changed_databases, make_journals, write_databases};
-use crate::supers::{close, drop_journals, open_super};
+use crate::work::Work;
 use card::Card;
 use journal::JOURNAL_LIMIT;
 use names::Names;
@@ -26,10 +25,10 @@ pub fn commit<C: Card>(
 ) -> Result<usize, SetFault>
     ensures { Committed C.Card.meaning (named names.now.rows names.now.lens names.now.count) nonce (changes (λ d. contents (C.Card.meaning.holds card.old (named names.now.rows names.now.lens names.now.count d))) sizes.now.rows memory.now names.now.count) card.old result card.new }
 {
-    let many = changed_databases(memory, names.count()) >= 2;
-    open_super(card, names, memory, many, buffer)?;
-    make_journals(card, names, memory, sizes, nonce, many, buffer)?;
-    write_databases(card, names, memory)?;
-    close(card, names, memory, many)?;
-    Ok(drop_journals(card, names, memory, many))
+    let work = Work::new(names, memory);
+    work.open_super(card, buffer)?;
+    work.make_journals(card, sizes, nonce, buffer)?;
+    work.write_databases(card)?;
+    work.close(card)?;
+    Ok(work.drop_journals(card))
 }

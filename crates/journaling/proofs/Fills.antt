@@ -1,5 +1,7 @@
 -- A journal that is filled for a commit is never refused: its pages are lawful, and the buffer has room.
-use Rattle.std.proofs.Common.{◌≡◌, ℕ, zero, suc, ◌+◌, ◌-◌, ◌≤◌, Bool, true, false, cond, ◌&&◌, ltb, leb, List, [], ◌∷◌, length, Some, None, Err, Option, sym, refl, ap, ◌∙◌, arith, Bor}
+use Rattle.std.proofs.Common.{◌≡◌, ℕ, zero, suc, ◌+◌, ◌-◌, ◌≤◌, Bool, true, false, cond, ◌&&◌, ltb, leb, List, [], ◌∷◌, length, Some, None, Ok, Err, Option, Result, sym, refl, ap, ◌∙◌, arith, Bor}
+use Rattle.std.specs.Bool.{then_some}
+use Rattle.std.specs.Result.{IsOk}
 use Rattle.std.proofs.lemmas.Bool.{and_from, and_parts, both_ways, le-leb, lt-ltb, leb-true, ltb-true, cond-true, cond-false}
 use Rattle.card.specs.Meaning.{Bytes, Name}
 use Rattle.journal.specs.Format.{super_bytes}
@@ -39,11 +41,9 @@ recorded_lawful s size some small few =
     (and_from _ _ refl (and_from _ _ refl (and_from _ _ (le-leb 1 size some) (above_ascend s size 1 (size - 1) (omega arith))))))
 
 -- the name that is passed is the super-journal's where the journal is linked, and else none
-pub name_linked : (file : ℕ → Name) (o : Option (Bor Bytes)) (linked : Bool) (b : Bor Bytes) → o ≡ Some b → b.now ≡ file 8 → linked ≡ true → told o ≡ super_of file linked
-name_linked file o linked b e is t = ap told e ∙ ap (λ (n : Name). Some n) is ∙ sym (cond-true linked _ _ t)
-
-pub name_free : (file : ℕ → Name) (o : Option (Bor Bytes)) (linked : Bool) → o ≡ None → linked ≡ false → told o ≡ super_of file linked
-name_free file o linked e t = ap told e ∙ sym (cond-false linked _ _ t)
+pub name_passed : (file : ℕ → Name) (o : Option (Bor Bytes)) (linked : Bool) (b : Bor Bytes) → o ≡ then_some linked b → b.now ≡ file 8 → told o ≡ super_of file linked
+name_passed file o true b e is = ap told e ∙ ap (λ (n : Name). Some n) is
+name_passed file o false b e is = ap told e
 
 -- and it is a lawful one
 pub super_lawful : (file : ℕ → Name) (linked : Bool) → 1 ≤ length (file 8) → length (file 8) ≤ 32 → given_lawful (super_of file linked) ≡ true
@@ -56,10 +56,11 @@ short_super file true high = omega (arith, length_super (file 8))
 short_super file false high = omega arith
 
 pub not_refused :
-    (file : ℕ → Name) (linked : Bool) (old new : Bytes) (nonce size : ℕ) (pages : List ℕ) (e : Refusal) → 1 ≤ size → size ≤ 4096 → pages_lawful size pages ≡ true →
-    1 ≤ length (file 8) → length (file 8) ≤ 32 → length old ≡ 17724 → Filled old nonce size pages (super_of file linked) (Err e) new → ⊥
-not_refused file linked old new nonce size pages Limit some small lawful low high long f =
-    both_ways _ f.0 (and_from _ _ (and_from _ _ (le-leb 1 size some) (le-leb size 4096 small)) (and_from _ _ lawful (super_lawful file linked low high)))
-not_refused file linked old new nonce size pages Room some small lawful low high long f =
+    (file : ℕ → Name) (linked : Bool) (old new : Bytes) (nonce size : ℕ) (pages : List ℕ) (r : Result ℕ Refusal) → 1 ≤ size → size ≤ 4096 → pages_lawful size pages ≡ true →
+    1 ≤ length (file 8) → length (file 8) ≤ 32 → length old ≡ 17724 → Filled old nonce size pages (super_of file linked) r new → IsOk r
+not_refused file linked old new nonce size pages (Ok n) some small lawful low high long f = refl
+not_refused file linked old new nonce size pages (Err Limit) some small lawful low high long f =
+    absurd (both_ways _ f.0 (and_from _ _ (and_from _ _ (le-leb 1 size some) (le-leb size 4096 small)) (and_from _ _ lawful (super_lawful file linked low high))))
+not_refused file linked old new nonce size pages (Err Room) some small lawful low high long f =
     let few = leb-true (length pages) 33 (and_parts _ _ (and_parts (leb 1 (length pages)) _ lawful).1).0 in
     absurd (omega (arith, f.1, few, long, short_super file linked high))

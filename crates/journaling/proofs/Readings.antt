@@ -59,22 +59,6 @@ read_append n d k (p ∷ ps) qs =
     ap (λ (ts : List Task). task (at_record C2 d k) n (read (place p) 512) ∷ ts)
     (read_append n d (suc k) ps qs ∙ ap (λ (i : ℕ). read_tasks n d (suc k) ps ++ read_tasks n d i qs) (omega arith))
 
-read_one : (n : Name) (d k p : ℕ) → read_tasks n d k (p ∷ []) ≡ task (at_record C2 d k) n (read (place p) 512) ∷ []
-unfolding read_tasks
-read_one n d k p = refl
-
-original_one : (b : Bytes) (k p : ℕ) → originals b k (p ∷ []) ≡ record { page = p; bytes = page_bytes b k } ∷ []
-unfolding originals
-original_one b k p = refl
-
-none_read : (n : Name) (d k : ℕ) → read_tasks n d k [] ≡ []
-unfolding read_tasks
-none_read n d k = refl
-
-no_originals : (b : Bytes) (k : ℕ) → originals b k [] ≡ []
-unfolding originals
-no_originals b k = refl
-
 -- the first i pages are read
 pub record Reading {C : Type 0} (m : Meaning C) (n : Name) (d : ℕ) (pages : List ℕ) (c₀ : C) (i : ℕ) (c : C) (buf : Bytes) : Type 0 where
   pub went : Went m {V = Unit {0}} (read_tasks n d 1 (take i pages)) c₀ (Ok tt) c
@@ -84,13 +68,8 @@ pub record Reading {C : Type 0} (m : Meaning C) (n : Name) (d : ℕ) (pages : Li
 
 module _ {C : Type 0} (m : Meaning C) (n : Name) (d : ℕ) (pages : List ℕ) (c₀ : C) where
   pub reading_none : (buf : Bytes) → length buf ≡ 17724 → Reading m n d pages c₀ 0 c₀ buf
-  reading_none buf room =
-      record {
-        went = subst (λ (ts : List Task). Went m {V = Unit {0}} ts c₀ (Ok tt) c₀) (sym (none_read n d 1)) (went_end m c₀ tt);
-        same = refl;
-        lies = no_originals buf 0;
-        room = room;
-      }
+  unfolding read_tasks originals
+  reading_none buf room = record { went = went_end m c₀ tt; same = refl; lies = refl; room = room }
 
   module _ (i : ℕ) (c c₁ : C) (buf buf₁ : Bytes) (g : Reading m n d pages c₀ i c buf) (lt : i < length pages) (few : i < 33) where
     abbrev p : ℕ
@@ -107,13 +86,13 @@ module _ {C : Type 0} (m : Meaning C) (n : Name) (d : ℕ) (pages : List ℕ) (c
 
     number : (V : Type 0) (r : Result V SetFault) → Went m (task (at_record C2 d (i + 1)) n (read (place p) 512) ∷ []) c r c₁ →
         Went m (read_tasks n d (1 + length (take i pages)) (p ∷ [])) c r c₁
-    number V r w =
-        let k : i + 1 ≡ 1 + length (take i pages) = omega (arith, long) in
-        subst (λ (ts : List Task). Went m ts c r c₁) (ap (λ (x : ℕ). task (at_record C2 d x) n (read (place p) 512) ∷ []) k ∙ sym (read_one n d (1 + length (take i pages)) p)) w
+    unfolding read_tasks
+    number V r w = let k : i + 1 ≡ 1 + length (take i pages) = omega (arith, long) in subst (λ (x : ℕ). Went m (task (at_record C2 d x) n (read (place p) 512) ∷ []) c r c₁) k w
 
     pub reading_more :
         Went m {V = Unit {0}} (task (at_record C2 d (i + 1)) n (read (place p) 512) ∷ []) c (Ok tt) c₁ → Copied (contents (m.holds c n)) p i buf (Ok tt) buf₁ →
         Reading m n d pages c₀ (i + 1) c₁ buf₁
+    unfolding originals
     reading_more w copied =
         record {
           went =
@@ -147,7 +126,7 @@ module _ {C : Type 0} (m : Meaning C) (n : Name) (d : ℕ) (pages : List ℕ) (c
             ∙ ap (part (overwrite buf (record_place i + 4) bytes) (record_place i + 4)) (sym size) ∙ part_put buf (record_place i + 4) bytes (omega (arith, g.room, few))
 
         new : originals buf₁ (0 + length (take i pages)) (p ∷ []) ≡ original stored p ∷ []
-        new = original_one buf₁ (0 + length (take i pages)) p ∙ ap (λ (b : Bytes). record { page = p; bytes = b } ∷ []) page
+        new = ap (λ (b : Bytes). record { page = p; bytes = b } ∷ []) page
 
     pub reading_stopped :
         (f : SetFault) → Went m {V = Unit {0}} (task (at_record C2 d (i + 1)) n (read (place p) 512) ∷ []) c (Err f) c₁ → Went m {V = Unit {0}} (read_tasks n d 1 pages) c₀ (Err f) c₁
@@ -169,9 +148,3 @@ module _ {C : Type 0} (m : Meaning C) (n : Name) (d : ℕ) (pages : List ℕ) (c
 
     pub all_lie : RecordedIn (contents (m.holds c₀ n)) pages (Ok tt) buf
     all_lie = subst (λ (ps : List ℕ). originals buf 0 ps ≡ map (original (contents (m.holds c₀ n))) ps) (take_all i pages past) g.lies
-
--- the same pages of the same file, said in other words
-pub read_as :
-    {C V : Type 0} (m : Meaning C) (c c' : C) (d : ℕ) (r : Result V SetFault) (n n' : Name) (ps ps' : List ℕ) → n ≡ n' → ps ≡ ps' →
-    Went m (read_tasks n d 1 ps) c r c' → Went m (read_tasks n' d 1 ps') c r c'
-read_as m c c' d r n n' ps ps' en ep w = subst (λ (ts : List Task). Went m ts c r c') (ap₂ (λ (n : Name) (ps : List ℕ). read_tasks n d 1 ps) en ep) w

@@ -1,3 +1,4 @@
 pub mod Plan
 pub mod Changes
 pub mod Buffers
+pub mod Made

@@ -1,11 +1,10 @@
 // The journal of one database: its originals read, the bytes filled around them, and all stored.
-ghost use Rattle.std.specs.Prelude.{◌≡◌, ℕ, ◌<◌, ◌≤◌, true, [], Ok, Err};
+ghost use Rattle.std.specs.Prelude.{◌≡◌, ◌<◌, ◌≤◌, true, Ok};
 ghost use Rattle.journal_writer.specs.Written.{Filled, pages_lawful};
-ghost use Rattle.names.specs.Names.{named};
-ghost use Rattle.pager.specs.Sound.{map_of};
 ghost use Rattle.steps.specs.Tasks.{Went};
 ghost use Rattle.journaling.specs.Plan.{journal_tasks, super_of};
-ghost use Rattle.journaling.specs.Changes.{contents, recorded};
+ghost use Rattle.journaling.specs.Changes.{contents};
+ghost use Rattle.journaling.specs.Made.{files, recorded_by};
 
 use crate::originals::read_originals;
 use crate::pages::recorded_pages;
@@ -17,60 +16,57 @@ use pager::Memory;
 use refusal::{SetFault, Step};
 use steps::Site;
 
-/// Fills the buffer with a journal of count 0 around the pages that lie in it, and tells its length.
-/// It names the super-journal of the set if it is linked.
-fn fill(
-    buffer: &mut [u8; JOURNAL_LIMIT],
-    nonce: u32,
-    size: u32,
-    pages: &[u32],
-    names: &Names,
-    linked: bool,
-) -> usize
-    requires some { 1 ≤ size }
-    requires small { size ≤ 4096 }
-    requires pages { pages_lawful size pages.now ≡ true }
-    ensures { Filled buffer.old nonce size pages.now (super_of (named names.now.rows names.now.lens names.now.count) linked) (Ok result) buffer.new }
-{
-    let file = names.file(SUPER_JOURNAL);
-    let name = if linked { Some(file.bytes()) } else { None };
-    let Ok(length) = fill_journal(buffer, nonce, size, pages, name) else {
-        unreachable()
-    };
-    length
+/// What the journals of a commit are made by. Each names the super-journal of the set if they are linked.
+#[derive(Clone, Copy)]
+pub struct Journals<'a> {
+    pub names: &'a Names,
+    pub memory: &'a Memory,
+    pub nonce: u32,
+    pub linked: bool,
 }
 
-/// Makes the journal of a database: creates it, reads the originals that it records, stores it whole
-/// with count 0, and then its count. For the crates of this repository: it wants a database of the
-/// names and of the memory, and a size in pages within its limits.
-pub fn make_journal<C: Card>(
-    card: &mut C,
-    names: &Names,
-    memory: &Memory,
-    database: usize,
-    size: u32,
-    nonce: u32,
-    linked: bool,
-    buffer: &mut [u8; JOURNAL_LIMIT],
-) -> Result<(), SetFault>
-    requires listed { database < names.now.count }
-    requires known { database < memory.now.count }
-    requires some { 1 ≤ size }
-    requires small { size ≤ 4096 }
-    ensures { Went C.Card.meaning (journal_tasks (named names.now.rows names.now.lens names.now.count) nonce (super_of (named names.now.rows names.now.lens names.now.count) linked) (record { database = database; stored = contents (C.Card.meaning.holds card.old (named names.now.rows names.now.lens names.now.count database)); size = size; recorded = recorded (map_of memory.now.maps database) size; pages = [] })) card.old result card.new }
-{
-    let file = names.file(database);
-    let journal = names.file(DATABASES + database);
-    let site = Site::new(Step::C2, DATABASES + database);
-    site.create(card, journal.bytes())?;
-    let recorded = recorded_pages(memory, database, size);
-    let pages = &recorded.rows[0..recorded.count];
-    read_originals(card, file.bytes(), database, pages, buffer)?;
-    let length = fill(buffer, nonce, size, pages, names, linked);
-    site.told(store_journal(
-        card,
-        journal.bytes(),
-        &buffer[0..length],
-        recorded.count as u32,
-    ))
+impl Journals<'_> {
+    /// Fills the buffer with a journal of count 0 around the pages that lie in it, and tells its length.
+    fn fill(&self, size: u32, pages: &[u32], buffer: &mut [u8; JOURNAL_LIMIT]) -> usize
+        requires some { 1 ≤ size }
+        requires small { size ≤ 4096 }
+        requires pages { pages_lawful size pages.now ≡ true }
+        ensures { Filled buffer.old self.now.nonce size pages.now (super_of (files self.now) self.now.linked) (Ok result) buffer.new }
+    {
+        let file = self.names.file(SUPER_JOURNAL);
+        let name = self.linked.then_some(file.bytes());
+        fill_journal(buffer, self.nonce, size, pages, name).unwrap()
+    }
+
+    /// Makes the journal of a database: creates it, reads the originals that it records, stores it whole
+    /// with count 0, and then its count. For the crates of this repository: it wants a database of the
+    /// names and of the memory, and a size in pages within its limits.
+    pub fn make<C: Card>(
+        &self,
+        card: &mut C,
+        database: usize,
+        size: u32,
+        buffer: &mut [u8; JOURNAL_LIMIT],
+    ) -> Result<(), SetFault>
+        requires listed { database < self.now.names.now.count }
+        requires known { database < self.now.memory.now.count }
+        requires some { 1 ≤ size }
+        requires small { size ≤ 4096 }
+        ensures { Went C.Card.meaning (journal_tasks (files self.now) self.now.nonce (super_of (files self.now) self.now.linked) (recorded_by self.now (contents (C.Card.meaning.holds card.old (files self.now database))) database size)) card.old result card.new }
+    {
+        let file = self.names.file(database);
+        let journal = self.names.file(DATABASES + database);
+        let site = Site::new(Step::C2, DATABASES + database);
+        site.create(card, journal.bytes())?;
+        let recorded = recorded_pages(self.memory, database, size);
+        let pages = recorded.as_slice();
+        read_originals(card, file.bytes(), database, pages, buffer)?;
+        let length = self.fill(size, pages, buffer);
+        site.told(store_journal(
+            card,
+            journal.bytes(),
+            &buffer[0..length],
+            pages.len() as u32,
+        ))
+    }
 }

@@ -9,5 +9,5 @@ mod journals;
 mod originals;
 mod pages;
 
-pub use journals::make_journal;
+pub use journals::Journals;
 pub use pages::{is_changed, next_page};

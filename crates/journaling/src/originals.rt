@@ -9,7 +9,7 @@ ghost use Rattle.journaling.specs.Changes.{contents};
 ghost use Rattle.journaling.specs.Buffers.{Copied, RecordedIn, PagesOk};
 
 use card::Card;
-use journal::{JOURNAL_LIMIT, PAGE, RECORD, SECTOR};
+use journal::{JOURNAL_LIMIT, PAGE, record_place};
 use refusal::{SetFault, Step};
 use steps::Site;
 
@@ -19,7 +19,7 @@ fn read_original<C: Card>(
     name: &[u8],
     database: usize,
     page: u32,
-    index: usize,
+    index: u32,
     buffer: &mut [u8; JOURNAL_LIMIT],
 ) -> Result<(), SetFault>
     requires index { index < 33 }
@@ -28,8 +28,8 @@ fn read_original<C: Card>(
     ensures went { Went C.Card.meaning (task (at_record C2 database (index + 1)) name.now (reads (place_of page) 512) ∷ []) card.old result card.new }
     ensures copied { Copied (contents (C.Card.meaning.holds card.old name.now)) page index buffer.old result buffer.new }
 {
-    let start = SECTOR + RECORD * index + 4;
-    let site = Site::of_record(Step::C2, database, index as u32 + 1);
+    let start = record_place(index) + 4;
+    let site = Site::of_record(Step::C2, database, index + 1);
     site.read(
         card,
         name,
@@ -51,8 +51,8 @@ pub fn read_originals<C: Card>(
     ensures went { Went C.Card.meaning (read_tasks name.now database 1 pages.now) card.old result card.new }
     ensures read { RecordedIn (contents (C.Card.meaning.holds card.old name.now)) pages.now result buffer.new }
 {
-    for index in 0..pages.len() {
-        read_original(card, name, database, pages[index], index, buffer)?;
+    for (index, page) in pages.iter().enumerate() {
+        read_original(card, name, database, *page, index as u32, buffer)?;
     }
     Ok(())
 }

@@ -1,6 +1,6 @@
 -- Changed pages written one after the other.
 use Rattle.std.proofs.Common.{◌≡◌, ℕ, ◌-◌, ◌≤◌, List, [], ◌∷◌, ◌++◌, map, Some, Ok, Err, Option, Result, sym, refl, ap, ◌∙◌, subst, arith}
-use Rattle.std.proofs.lemmas.List.{append-nil}
+use Rattle.std.proofs.lemmas.List.{append-nil, append_assoc, map-append}
 use Rattle.card.specs.Meaning.{Meaning, Bytes, Name}
 use Rattle.card.specs.Calls.{write}
 use Rattle.journal.specs.Format.{PageRecord}
@@ -17,7 +17,7 @@ use Rattle.steps.proofs.Went.{went_end, went_then, went_stop}
 use Rattle.journaling.specs.Plan.{place, at, write_tasks}
 use Rattle.journaling.specs.Changes.{page_held, pages_held}
 
-pub write_append : (n : Name) (d : ℕ) (xs ys : List PageRecord) → write_tasks n d (xs ++ ys) ≡ write_tasks n d xs ++ write_tasks n d ys
+write_append : (n : Name) (d : ℕ) (xs ys : List PageRecord) → write_tasks n d (xs ++ ys) ≡ write_tasks n d xs ++ write_tasks n d ys
 unfolding write_tasks
 write_append n d [] ys = refl
 write_append n d (r ∷ xs) ys = ap (λ (ts : List Task). task (at C3 d) n (write (place r.page) r.bytes) ∷ ts) (write_append n d xs ys)
@@ -29,14 +29,6 @@ write_one n d r = refl
 write_none : (n : Name) (d : ℕ) → write_tasks n d [] ≡ []
 unfolding write_tasks
 write_none n d = refl
-
-pub map_append : {A B : Type 0} (f : A → B) (xs ys : List A) → map f (xs ++ ys) ≡ map f xs ++ map f ys
-map_append f [] ys = refl
-map_append {A} {B} f (x ∷ xs) ys = ap (λ (l : List B). f x ∷ l) (map_append f xs ys)
-
-snoc : (xs ys : List ℕ) (p : ℕ) → (xs ++ (p ∷ [])) ++ ys ≡ xs ++ (p ∷ ys)
-snoc [] ys p = refl
-snoc (x ∷ xs) ys p = ap (λ (l : List ℕ). x ∷ l) (snoc xs ys p)
 
 -- a changed page is what the store has of it
 pub held_bytes : (stored : ℕ → Bytes) (m : Memory) (d p : ℕ) (b : Bytes) → look (fields m).changed d p ≡ Some b → page_now stored (fields m) d p ≡ b
@@ -75,9 +67,9 @@ module _ {C : Type 0} (m : Meaning C) (n : Name) (mem : Memory) (d : ℕ) (c₀ 
             done = g.done ++ (p ∷ []);
             went = λ stored.
                 subst (λ (ts : List Task). Went m {V = Unit {0}} ts c₀ (Ok tt) c₁)
-                (sym (ap (write_tasks n d) (map_append (page_held stored mem d) g.done (p ∷ [])) ∙ write_append n d (map (page_held stored mem d) g.done) (page_held stored mem d p ∷ [])))
+                (sym (ap (write_tasks n d) (map-append (page_held stored mem d) g.done (p ∷ [])) ∙ write_append n d (map (page_held stored mem d) g.done) (page_held stored mem d p ∷ [])))
                 (went_then m (write_tasks n d (map (page_held stored mem d) g.done)) (write_tasks n d (page_held stored mem d p ∷ [])) c₀ c c₁ tt (Ok tt) (g.went stored) (one (Unit {0}) (Ok tt) stored w));
-            rest = snoc g.done (above s p (4096 - p)) p ∙ ap (λ (l : List ℕ). g.done ++ l) (sym next) ∙ g.rest;
+            rest = append_assoc g.done (p ∷ []) (above s p (4096 - p)) ∙ ap (λ (l : List ℕ). g.done ++ l) (sym next) ∙ g.rest;
             low = high;
           }
 
@@ -97,7 +89,7 @@ module _ {C : Type 0} (m : Meaning C) (n : Name) (mem : Memory) (d : ℕ) (c₀ 
           whole : write_tasks n d (pages_held stored mem d) ≡ write_tasks n d (map held g.done) ++ (write_tasks n d (held p ∷ []) ++ write_tasks n d (map held (above s p (4096 - p))))
           whole =
               ap (λ (l : List ℕ). write_tasks n d (map held l)) (sym g.rest ∙ ap (λ (l : List ℕ). g.done ++ l) next)
-              ∙ ap (write_tasks n d) (map_append held g.done (p ∷ above s p (4096 - p)))
+              ∙ ap (write_tasks n d) (map-append held g.done (p ∷ above s p (4096 - p)))
               ∙ write_append n d (map held g.done) (held p ∷ map held (above s p (4096 - p)))
               ∙ ap (λ (ts : List Task). write_tasks n d (map held g.done) ++ ts) (write_append n d (held p ∷ []) (map held (above s p (4096 - p))))
 

@@ -30,9 +30,7 @@ pub fn write_pages<C: Card>(
     let site = Site::new(Step::C3, database);
     let mut last = 0;
     while let Some(page) = next_page(memory, database, last, PAGE_LIMIT) {
-        let Some(bytes) = memory.get(database, page) else {
-            unreachable()
-        };
+        let bytes = memory.get(database, page).unwrap();
         site.write(card, file.bytes(), (page - 1) * PAGE as u32, bytes)?;
         last = page;
     }

@@ -1,6 +1,7 @@
 -- Tasks one after the other: lists done in order make up a longer list, and a refusal in a part is a
 -- refusal in the whole.
 use Rattle.std.proofs.Common.{◌≡◌, ℕ, List, [], ◌∷◌, ◌++◌, Ok, Err, Option, Result, sym, refl, ap, ◌∙◌, subst}
+use Rattle.std.proofs.lemmas.List.{append_assoc as assoc, map-append}
 use Rattle.card.specs.declared.fault.Cause.{Cause}
 use Rattle.card.specs.declared.fault.CardFault.{CardFault}
 use Rattle.card.specs.Meaning.{Meaning, Bytes, Name}
@@ -19,12 +20,10 @@ module _ {C : Type 0} (m : Meaning C) where
   runs_then xs ys c c₁ c₂ e (next {a = a} {acts = rest} {c₁ = d} w q) r = next w (runs_then rest ys d c₁ c₂ e q r)
 
   pub acts_append : (xs ys : List Task) → acts (xs ++ ys) ≡ acts xs ++ acts ys
-  acts_append [] ys = refl
-  acts_append (t ∷ xs) ys = ap (λ (r : List Act). t.act ∷ r) (acts_append xs ys)
+  acts_append xs ys = map-append (λ t. t.act) xs ys
 
   pub append_assoc : (xs ys zs : List Task) → (xs ++ ys) ++ zs ≡ xs ++ (ys ++ zs)
-  append_assoc [] ys zs = refl
-  append_assoc (t ∷ xs) ys zs = ap (λ (r : List Task). t ∷ r) (append_assoc xs ys zs)
+  append_assoc xs ys zs = assoc xs ys zs
 
   pub ran_then : (xs ys : List Task) (c c₁ c₂ : C) (e : End) → Runs m (acts xs) c through c₁ → Runs m (acts ys) c₁ e c₂ → Runs m (acts (xs ++ ys)) c e c₂
   ran_then xs ys c c₁ c₂ e p q = subst (λ (list : List Act). Runs m list c e c₂) (sym (acts_append xs ys)) (runs_then (acts xs) (acts ys) c c₁ c₂ e p q)

@@ -1,4 +1,6 @@
 // The calls of a card, each from a site.
+#![tactic(auto, using(crate::proofs::Went::went_one, crate::proofs::Went::told_length, crate::proofs::Went::told_bytes))]
+
 ghost use Rattle.std.specs.Prelude.{◌≡◌, [], ◌∷◌, length as count};
 ghost use Rattle.card.specs.Calls.Op.{length_of, read as reads, create as creates, write as writes, set_length, sync as syncs, delete as deletes};
 ghost use Rattle.steps.specs.Tasks.{Went, task, ToldLength, ToldBytes};

@@ -49,19 +49,13 @@ impl Site {
     pub fn told<V>(self, answer: Result<V, JournalFault>) -> Result<V, SetFault>
         ensures { result ≡ told_journal self answer }
     {
-        match answer {
-            Ok(value) => Ok(value),
-            Err(fault) => Err(SetFault::from(fault).at(self.step, self.file, self.record)),
-        }
+        answer.map_err(|fault| SetFault::from(fault).at(self.step, self.file, self.record))
     }
 
     /// What the card answered, told with the site.
     pub fn told_card<V>(self, answer: Result<V, CardFault>) -> Result<V, SetFault>
         ensures { result ≡ told_card self answer }
     {
-        match answer {
-            Ok(value) => Ok(value),
-            Err(fault) => self.told(Err(JournalFault::from(fault))),
-        }
+        self.told(answer.map_err(JournalFault::from))
     }
 }

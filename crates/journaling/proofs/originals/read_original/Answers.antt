@@ -1,7 +1,6 @@
 use Rattle.std.proofs.Common.{◌≡◌, ◌+◌, ◌-◌, ◌*◌, length, take, drop, refl, ap, arith}
 use Rattle.std.proofs.lemmas.List.{length-take, length-drop}
 use Rattle.card.specs.Calls.{read}
-use Rattle.card.specs.Meaning.{Meaning}
 use Rattle.steps.proofs.Went.{went_as}
 use Rattle.journaling.specs.Plan.{place}
 use Rattle.journaling.proofs.Copies.{copied_page}
@@ -9,14 +8,12 @@ use Rattle.journaling.proofs.originals.read_original.Goals as goal
 
 pub returns : goal.returns
 returns g c =
-    let m : Meaning g.row.C.Denot = g.C.Card.meaning in
-    let start = 512 + 520 * c.args.index + 4 in
+    let start = c.record_place-start.result + 4 in
     let k = start + 512 - start in
     let buf = c.args.buffer.now in
     let old = take k (drop start buf) in
-    let size : length buf ≡ 17724 = omega arith in
-    let long : length old ≡ 512 = omega (arith, length-take k (drop start buf), length-drop start buf, size, c.requires.index) in
+    let long : length old ≡ 512 = omega (arith, length-take k (drop start buf), length-drop start buf, c.told-buffer, c.record_place-start.ensures, c.requires.index) in
     record {
-      went = went_as m _ _ _ _ _ _ _ _ _ c.of_record-site.ensures refl (ap (read (place c.args.page)) long) c.read.ensures.went;
-      copied = copied_page m c.args.card.now c.read.new.card _ c.args.name.now c.args.page c.args.index start k buf old c.read.new.buffer c.read.result refl (omega arith) refl long c.read.ensures.went c.read.ensures.told;
+      went = went_as _ _ _ _ _ _ _ _ _ _ c.of_record-site.ensures refl (ap (read (place c.args.page)) long) c.read.ensures.went;
+      copied = copied_page _ c.args.card.now c.read.new.card _ c.args.name.now c.args.page c.args.index start k buf old c.read.new.buffer c.read.result (omega (arith, c.record_place-start.ensures)) (omega arith) refl long c.read.ensures.went c.read.ensures.told;
     }

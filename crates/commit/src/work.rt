@@ -1,0 +1,65 @@
+// What a commit works by: the names of the files, the memory of the transaction, and the databases that
+// have a changed page.
+ghost use Rattle.std.specs.Prelude.{◌≡◌, ◌<◌, ◌≤◌, length as count_of, EachIndex, slice_index};
+ghost use Rattle.journaling.specs.Changes.{changed_list};
+
+use few::Few;
+use journaling::is_changed;
+use names::{DATABASES, Names};
+use pager::Memory;
+
+/// What a commit works by: the changed databases stand in a list, in order.
+#[derive(Clone, Copy)]
+pub struct Work<'a> {
+    pub names: &'a Names,
+    pub memory: &'a Memory,
+    changed: Few<usize, DATABASES>,
+    ghost listed: { changed.items ≡ changed_list memory.now names.now.count },
+}
+
+/// Those of the first databases that have a changed page, in order.
+fn changed_databases(memory: &Memory, count: usize) -> Few<usize, DATABASES>
+    requires { count ≤ 4 }
+    ensures { result.items ≡ changed_list memory.now count }
+{
+    let mut changed = Few::new(0);
+    for database in 0..count {
+        if is_changed(memory, database) {
+            changed.push(database);
+        }
+    }
+    changed
+}
+
+impl<'a> Work<'a> {
+    ghost use Rattle.commit.specs.Works.{listed, several};
+
+    /// The work of a commit of the memory.
+    pub fn new(names: &'a Names, memory: &'a Memory) -> Work<'a>
+        ensures names { result.names.now ≡ names.now }
+        ensures memory { result.memory.now ≡ memory.now }
+    {
+        Work {
+            names,
+            memory,
+            changed: changed_databases(memory, names.count()),
+        }
+    }
+
+    /// The databases that have a changed page, in order.
+    pub fn changed(&self) -> &[usize]
+        ensures is { result.now ≡ listed self.now }
+        ensures few { count_of result.now ≤ 4 }
+        ensures named { EachIndex result.now (λ k. slice_index result.now k < self.now.names.now.count) }
+        ensures known { EachIndex result.now (λ k. slice_index result.now k < self.now.memory.now.count) }
+    {
+        self.changed.as_slice()
+    }
+
+    /// Whether two or more databases change.
+    pub fn many(&self) -> bool
+        ensures { result ≡ several self.now }
+    {
+        self.changed.len() >= 2
+    }
+}

@@ -1,5 +1,0 @@
-use Rattle.steps.proofs.Went.{went_one}
-use Rattle.steps.proofs.site.Site.delete.Goals as goal
-
-pub returns : goal.returns
-returns g c = went_one _ _ _ _ _ _ _ _ c.told_card.ensures c.delete.ensures
