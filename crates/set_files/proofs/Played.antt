@@ -1,5 +1,5 @@
 -- The bytes and the records of a journal that is played back.
-use Rattle.std.proofs.Common.{◌≡◌, ℕ, zero, suc, ◌+◌, ◌-◌, ◌*◌, ◌<◌, ◌≤◌, List, [], ◌∷◌, length, take, drop, Some, None, Ok, Option, sym, ap, ◌∙◌, subst, arith}
+use Rattle.std.proofs.Common.{◌≡◌, ℕ, zero, suc, ◌+◌, ◌-◌, ◌*◌, ◌<◌, ◌≤◌, List, [], ◌∷◌, length, take, drop, Some, None, Ok, Option, MatchOption, sym, ap, ◌∙◌, subst, arith}
 use Rattle.std.proofs.lemmas.List.{take_at, take_all}
 use Rattle.card.specs.Meaning.{Bytes, Name}
 use Rattle.card.specs.Calls.{overwrite}
@@ -23,30 +23,17 @@ ascending_at size last (r ∷ rs) (suc k) a lt = let h = ascending_at size r.pag
 pub page_bounds : (j : Journal) (k : ℕ) → LawfulJournal j → k < length j.records → (1 ≤ (record_of j.records k).page) × ((record_of j.records k).page ≤ 4096)
 page_bounds j k ok lt = let h = ascending_at j.size 0 j.records k ok.each lt in (omega (arith, h.0), omega (arith, h.1, ok.size))
 
--- how long a journal is, by its parts
-pub length_parts : (s : SoundParts) (j : Journal) → LawfulJournal j → Parts s j → length (full j) ≡ 512 + 520 * s.count + length (super_bytes j.super)
-length_parts s j ok p = omega (arith, length_encode (length j.records) j ok, p.count)
-
+-- how long a journal is, by its parts and by what its super-journal's name takes
 pub length_named :
-    (s : SoundParts) (j : Journal) (span : Span) → LawfulJournal j → Parts s j → s.name ≡ Some span → (length (full j) ≡ 512 + 520 * s.count + span.length + 20) × (span.length ≤ 32)
-length_named s j span ok p e = by j.super ok.name (sym e ∙ p.name) (length_parts s j ok p)
+    (s : SoundParts) (j : Journal) (k : ℕ) → LawfulJournal j → Parts s j → MatchOption s.name (k ≡ 0) (λ x. k ≡ x.length + 20) → 512 + 520 * s.count + k ≡ length (full j)
+unfolding super_bytes
+length_named s j k ok p h = by j.super (omega (arith, length_encode (length j.records) j ok, p.count)) (subst (λ (o : Option Span). MatchOption o (k ≡ 0) (λ x. k ≡ x.length + 20)) p.name h)
   where
     by :
-        (o : Option Name) → LawfulName o → Some span ≡ name_span s.count o → length (full j) ≡ 512 + 520 * s.count + length (super_bytes o) →
-        (length (full j) ≡ 512 + 520 * s.count + span.length + 20) × (span.length ≤ 32)
-    by None short is long = let z : ◌≡◌ {A = ℕ} 0 1 = cc in absurd (omega arith)
-    by (Some n) short is long =
-        let span_is : span ≡ record { place = record_place s.count + 4; length = length n } = cc in
-        let size : span.length ≡ length n = ap (λ (x : Span). x.length) span_is in
-        (omega (arith, long, length_super n, size), omega (arith, size, short.1))
-
-pub length_alone : (s : SoundParts) (j : Journal) → LawfulJournal j → Parts s j → s.name ≡ None → length (full j) ≡ 512 + 520 * s.count
-unfolding super_bytes
-length_alone s j ok p e = by j.super (sym e ∙ p.name) (length_parts s j ok p)
-  where
-    by : (o : Option Name) → None ≡ name_span s.count o → length (full j) ≡ 512 + 520 * s.count + length (super_bytes o) → length (full j) ≡ 512 + 520 * s.count
-    by None is long = omega (arith, long)
-    by (Some n) is long = let z : ◌≡◌ {A = ℕ} 0 1 = cc in absurd (omega arith)
+        (o : Option Name) → length (full j) ≡ 512 + 520 * s.count + length (super_bytes o) → MatchOption (name_span s.count o) (k ≡ 0) (λ x. k ≡ x.length + 20) →
+        512 + 520 * s.count + k ≡ length (full j)
+    by None long is = omega (arith, long, is)
+    by (Some n) long is = omega (arith, long, length_super n, is)
 
 pub few_counted : (s : SoundParts) (j : Journal) → LawfulJournal j → Parts s j → s.count ≤ 33
 few_counted s j ok p = omega (arith, p.count, ok.few)
