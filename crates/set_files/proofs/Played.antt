@@ -35,9 +35,6 @@ length_named s j k ok p h = by j.super (omega (arith, length_encode (length j.re
     by None long is = omega (arith, long, is)
     by (Some n) long is = omega (arith, long, length_super n, is)
 
-pub few_counted : (s : SoundParts) (j : Journal) → LawfulJournal j → Parts s j → s.count ≤ 33
-few_counted s j ok p = omega (arith, p.count, ok.few)
-
 -- no journal is longer than the buffer
 pub length_limit : (j : Journal) → LawfulJournal j → length (full j) ≤ 17724
 unfolding super_bytes
