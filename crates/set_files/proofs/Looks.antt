@@ -125,10 +125,6 @@ module _ {C : Type 0} (m : Meaning C) where
       {V : Type 0} (step : Step) (file : ℕ → Name) (c c₁ : C) (e : Refusal) (r : Result V Refusal) → IsErrAnd r (λ x. x ≡ e) → Looked m step file c (stop_of e) c₁ → Looked m step file c (dropped r) c₁
   looked_refused {V} step file c c₁ e r h p = subst (λ (x : Result V Refusal). Looked m step file c (dropped x) c₁) (sym (passed_up r e h)) p
 
-  -- the calls that judge a file that is as told
-  pub judged_as :
-      {V : Type 0} (c c₁ : C) (s : Site) (n : Name) (f h : Option Bytes) (r : Result V SetFault) → f ≡ h → Went m (tasks s (judge_acts n f)) c r c₁ → Went m (tasks s (judge_acts n h)) c r c₁
-  judged_as c c₁ s n f h r e w = subst (λ (x : Option Bytes). Went m (tasks s (judge_acts n x)) c r c₁) e w
 
 -- a told length is that of a present file
 pub told_some : (f : Option Bytes) (n : ℕ) → Some n ≡ length_told f → (b : Bytes) × (f ≡ Some b) × (n ≡ length b)

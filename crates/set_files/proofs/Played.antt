@@ -48,18 +48,6 @@ length_limit j ok = by j.super ok.name (length_encode (length j.records) j ok)
 pub front_of : (buffer old b : Bytes) (n : ℕ) → buffer ≡ overwrite old 0 b → n ≡ length b → take (n - 0) buffer ≡ b
 front_of buffer old b n e size = ap (take (n - 0)) e ∙ take_at b (drop (0 + length b) old) (n - 0) (omega arith)
 
--- the verdict on the bytes of a journal is that it is sound, with its parts
-pub sound_parts : (b : Bytes) (v : Verdict) (j : Journal) (s : SoundParts) → Judged b v → LawfulJournal j → b ≡ full j → v ≡ Sound s → Parts s j
-sound_parts b v j s judged ok e is =
-    let t = journal_laws.round_trip j ok v (subst (λ (x : Bytes). Judged x v) e judged) in
-    let same : t.0 ≡ s = cc (t.1, is) in
-    subst (λ (x : SoundParts). Parts x j) same t.2
-
-pub always_sound : (b : Bytes) (v : Verdict) (j : Journal) → Judged b v → LawfulJournal j → b ≡ full j → ((s : SoundParts) → v ≡ Sound s → ⊥) → ⊥
-always_sound b v j judged ok e not_sound =
-    let t = journal_laws.round_trip j ok v (subst (λ (x : Bytes). Judged x v) e judged) in
-    not_sound t.0 t.1
-
 pub some_same : (f : Option Bytes) (a b : Bytes) → f ≡ Some a → f ≡ Some b → a ≡ b
 some_same f a b p q = cc
 
@@ -72,3 +60,13 @@ told_judged f old new o v e h = subst (λ (x : Option Verdict). ToldVerdict f ol
 -- the buffer begins with the whole journal
 pub journal_read : (old new b : Bytes) (j : Journal) → LawfulJournal j → b ≡ full j → new ≡ overwrite old 0 (take 17724 b) → new ≡ overwrite old 0 (full j)
 journal_read old new b j ok e is = is ∙ ap (overwrite old 0) (take_all 17724 b (subst (λ (x : Bytes). length x ≤ 17724) (sym e) (length_limit j ok)) ∙ e)
+
+-- a whole journal is judged sound, with its parts, and then lies at the front of the buffer
+pub sound_told :
+    (f : Option Bytes) (old new : Bytes) (o : Option Verdict) (j : Journal) → ToldVerdict f old (Ok o) new → LawfulJournal j → f ≡ Some (full j) →
+    (s : SoundParts) × (o ≡ Some (Sound s)) × Parts s j × (new ≡ overwrite old 0 (full j))
+sound_told f old new None j h ok e = let is : f ≡ None = h.0 in let z : ◌≡◌ {A = ℕ} 0 1 = cc in absurd (omega arith)
+sound_told f old new (Some v) j h ok e =
+    let same = some_same f h.0 (full j) h.1 e in
+    let t = journal_laws.round_trip j ok v (subst (λ (x : Bytes). Judged x v) same h.2) in
+    (t.0, ap (λ (x : Verdict). Some x) t.1, t.2, journal_read old new h.0 j ok same h.3)
