@@ -1,6 +1,9 @@
 -- Looks one after the other, and what they leave.
-use Rattle.std.proofs.Common.{◌≡◌, ℕ, ◌⊎◌, List, [], ◌∷◌, ◌++◌, length, Some, None, Ok, Err, Option, Result, sym, refl, ◌∙◌, subst, inl, inr, arith}
+use Rattle.std.proofs.Common.{◌≡◌, ℕ, ◌⊎◌, List, [], ◌∷◌, ◌++◌, length, Some, None, Ok, Err, Option, Result, sym, refl, ap, ◌∙◌, subst, inl, inr, arith}
 use Rattle.std.specs.List.{AllByRecursion}
+use Rattle.std.specs.Option.{ok_or}
+use Rattle.std.specs.Result.{IsErrAnd}
+use Rattle.std.proofs.lemmas.Result.{err_from_is_err_and}
 use Rattle.card.specs.Meaning.{Meaning, Bytes, Name}
 use Rattle.card.specs.Calls.{Op, length_told}
 use Rattle.card.specs.Runs.{Act}
@@ -90,12 +93,12 @@ module _ {C : Type 0} (m : Meaning C) (step : Step) (file : ℕ → Name) where
         went = went_ended (tasks s list) c c₁ r q;
       }
 
--- the card's fault, passed up
-pub told_card : {V : Type 0} (r : Result V Refusal) (f : SetFault) (good : V → Type 0) (damaged : ℕ → ℕ → Type 0) (foreign bad : ℕ → Type 0) → r ≡ Err (Card f) → Told r good damaged foreign bad
-told_card {V} r f good damaged foreign bad e = subst (λ (x : Result V Refusal). Told x good damaged foreign bad) (sym e) tt
+-- what a `?` passes up
+pub passed_up : {T E : Type 0} (r : Result T E) (e : E) → IsErrAnd r (λ x. x ≡ e) → r ≡ Err e
+passed_up {T} {E} r e h = let p = err_from_is_err_and r h in p.1 ∙ ap (λ (x : E). Err x) p.2
 
 -- a refusal that says more
-pub says_more :
+says_more :
     (e : Refusal) (damaged damaged' : ℕ → ℕ → Type 0) (foreign foreign' bad bad' : ℕ → Type 0) → ((f k : ℕ) → damaged f k → damaged' f k) → ((f : ℕ) → foreign f → foreign' f) →
     ((d : ℕ) → bad d → bad' d) → Says e damaged foreign bad → Says e damaged' foreign' bad'
 says_more NameCount d d' f f' b b' p q r h = h
@@ -117,28 +120,11 @@ says_more (Database x) d d' f f' b b' p q r h = r x h
 says_more (Card x) d d' f f' b b' p q r h = tt
 
 module _ {C : Type 0} (m : Meaning C) where
-  -- the same call by other words
-  pub went_as :
-      {V : Type 0} (c c₁ : C) (s s' : Site) (n n' : Name) (op : Op) (r : Result V SetFault) → s ≡ s' → n ≡ n' → Went m (task s n op ∷ []) c r c₁ → Went m (task s' n' op ∷ []) c r c₁
-  went_as c c₁ s s' n n' op r p q w =
-      subst (λ (x : Name). Went m (task s' x op ∷ []) c r c₁) q (subst (λ (x : Site). Went m (task x n op ∷ []) c r c₁) p w)
-
   -- what only looked, and then was refused
-  pub looked_up :
-      {V : Type 0} (step : Step) (file : ℕ → Name) (c c₁ : C) (f : SetFault) (r : Result V Refusal) → r ≡ Err (Card f) → Looked m step file c (Err f) c₁ → Looked m step file c (dropped r) c₁
-  looked_up {V} step file c c₁ f r e p = subst (λ (x : Result V Refusal). Looked m step file c (dropped x) c₁) (sym e) p
-
   pub looked_refused :
-      {V : Type 0} (step : Step) (file : ℕ → Name) (c c₁ : C) (e : Refusal) (r : Result V Refusal) → r ≡ Err e → Looked m step file c (stop_of e) c₁ → Looked m step file c (dropped r) c₁
-  looked_refused {V} step file c c₁ e r is p = subst (λ (x : Result V Refusal). Looked m step file c (dropped x) c₁) (sym is) p
+      {V : Type 0} (step : Step) (file : ℕ → Name) (c c₁ : C) (e : Refusal) (r : Result V Refusal) → IsErrAnd r (λ x. x ≡ e) → Looked m step file c (stop_of e) c₁ → Looked m step file c (dropped r) c₁
+  looked_refused {V} step file c c₁ e r h p = subst (λ (x : Result V Refusal). Looked m step file c (dropped x) c₁) (sym (passed_up r e h)) p
 
-  -- the calls that judge a file that is as told
-  pub judged_as :
-      {V : Type 0} (c c₁ : C) (s : Site) (n : Name) (f h : Option Bytes) (r : Result V SetFault) → f ≡ h → Went m (tasks s (judge_acts n f)) c r c₁ → Went m (tasks s (judge_acts n h)) c r c₁
-  judged_as c c₁ s n f h r e w = subst (λ (x : Option Bytes). Went m (tasks s (judge_acts n x)) c r c₁) e w
-
-pub not_absent : (f : Option Bytes) (b : Bytes) → f ≡ Some b → f ≡ None → ⊥
-not_absent f b p q = let z : ◌≡◌ {A = ℕ} 0 1 = cc in omega arith
 
 -- a told length is that of a present file
 pub told_some : (f : Option Bytes) (n : ℕ) → Some n ≡ length_told f → (b : Bytes) × (f ≡ Some b) × (n ≡ length b)
@@ -148,6 +134,17 @@ told_some (Some b) n e = (b, refl, cc)
 pub told_absent : (f : Option Bytes) (o : Option ℕ) → o ≡ None → o ≡ length_told f → f ≡ None
 told_absent None o a e = refl
 told_absent (Some b) o a e = let z : ◌≡◌ {A = ℕ} 0 1 = cc in absurd (omega arith)
+
+-- an absent value, refused and passed up
+pub absent_refused : {T V : Type 0} (o : Option T) (e x : Refusal) (r : Result V Refusal) → Err x ≡ ok_or o e → IsErrAnd r (λ y. y ≡ x) → (o ≡ None) × IsErrAnd r (λ y. y ≡ e)
+absent_refused {T} {V} None e x r h up = (refl, subst (λ (y : Refusal). IsErrAnd r (λ z. z ≡ y)) (let is : x ≡ e = cc in is) up)
+absent_refused (Some v) e x r h up = let z : ◌≡◌ {A = ℕ} 0 1 = cc in absurd (omega arith)
+
+-- a refusal passed up, that says more
+pub told_up :
+    {V : Type 0} (r : Result V Refusal) (e : Refusal) (good : V → Type 0) (damaged damaged' : ℕ → ℕ → Type 0) (foreign foreign' bad bad' : ℕ → Type 0) → IsErrAnd r (λ x. x ≡ e) →
+    ((f k : ℕ) → damaged f k → damaged' f k) → ((f : ℕ) → foreign f → foreign' f) → ((d : ℕ) → bad d → bad' d) → Says e damaged foreign bad → Told r good damaged' foreign' bad'
+told_up {V} r e good d d' f f' b b' up p q s h = subst (λ (x : Result V Refusal). Told x good d' f' b') (sym (passed_up r e up)) (says_more e d d' f f' b b' p q s h)
 
 -- an answer that says more
 pub told_more :
@@ -168,5 +165,5 @@ module _ {C : Type 0} (m : Meaning C) (step : Step) (file : ℕ → Name) where
   looked_judged c c₁ k f r w = looked_acts m step file c c₁ (record { step = Some step; file = k; «record» = 0 }) k (file k) (judge_acts (file k) f) r refl (inr refl) (judge_looks (file k) f) w
 
   -- what was refused, and passed up
-  pub looked_failed : {V : Type 0} (c c₁ : C) (f : SetFault) (r : Result V SetFault) → r ≡ Err f → Looked m step file c (Err f) c₁ → Looked m step file c (ended r) c₁
-  looked_failed {V} c c₁ f r e p = subst (λ (x : Result V SetFault). Looked m step file c (ended x) c₁) (sym e) p
+  pub looked_failed : {V : Type 0} (c c₁ : C) (f : SetFault) (r : Result V SetFault) → IsErrAnd r (λ x. x ≡ f) → Looked m step file c (Err f) c₁ → Looked m step file c (ended r) c₁
+  looked_failed {V} c c₁ f r h p = subst (λ (x : Result V SetFault). Looked m step file c (ended x) c₁) (sym (passed_up r f h)) p

@@ -1,5 +1,5 @@
 -- The bytes and the records of a journal that is played back.
-use Rattle.std.proofs.Common.{◌≡◌, ℕ, zero, suc, ◌+◌, ◌-◌, ◌*◌, ◌<◌, ◌≤◌, List, [], ◌∷◌, length, take, drop, Some, None, Ok, Option, sym, ap, ◌∙◌, subst, arith}
+use Rattle.std.proofs.Common.{◌≡◌, ℕ, zero, suc, ◌+◌, ◌-◌, ◌*◌, ◌<◌, ◌≤◌, List, [], ◌∷◌, length, take, drop, Some, None, Ok, Option, MatchOption, sym, ap, ◌∙◌, subst, arith}
 use Rattle.std.proofs.lemmas.List.{take_at, take_all}
 use Rattle.card.specs.Meaning.{Bytes, Name}
 use Rattle.card.specs.Calls.{overwrite}
@@ -23,33 +23,17 @@ ascending_at size last (r ∷ rs) (suc k) a lt = let h = ascending_at size r.pag
 pub page_bounds : (j : Journal) (k : ℕ) → LawfulJournal j → k < length j.records → (1 ≤ (record_of j.records k).page) × ((record_of j.records k).page ≤ 4096)
 page_bounds j k ok lt = let h = ascending_at j.size 0 j.records k ok.each lt in (omega (arith, h.0), omega (arith, h.1, ok.size))
 
--- how long a journal is, by its parts
-pub length_parts : (s : SoundParts) (j : Journal) → LawfulJournal j → Parts s j → length (full j) ≡ 512 + 520 * s.count + length (super_bytes j.super)
-length_parts s j ok p = omega (arith, length_encode (length j.records) j ok, p.count)
-
+-- how long a journal is, by its parts and by what its super-journal's name takes
 pub length_named :
-    (s : SoundParts) (j : Journal) (span : Span) → LawfulJournal j → Parts s j → s.name ≡ Some span → (length (full j) ≡ 512 + 520 * s.count + span.length + 20) × (span.length ≤ 32)
-length_named s j span ok p e = by j.super ok.name (sym e ∙ p.name) (length_parts s j ok p)
+    (s : SoundParts) (j : Journal) (k : ℕ) → LawfulJournal j → Parts s j → MatchOption s.name (k ≡ 0) (λ x. k ≡ x.length + 20) → 512 + 520 * s.count + k ≡ length (full j)
+unfolding super_bytes
+length_named s j k ok p h = by j.super (omega (arith, length_encode (length j.records) j ok, p.count)) (subst (λ (o : Option Span). MatchOption o (k ≡ 0) (λ x. k ≡ x.length + 20)) p.name h)
   where
     by :
-        (o : Option Name) → LawfulName o → Some span ≡ name_span s.count o → length (full j) ≡ 512 + 520 * s.count + length (super_bytes o) →
-        (length (full j) ≡ 512 + 520 * s.count + span.length + 20) × (span.length ≤ 32)
-    by None short is long = let z : ◌≡◌ {A = ℕ} 0 1 = cc in absurd (omega arith)
-    by (Some n) short is long =
-        let span_is : span ≡ record { place = record_place s.count + 4; length = length n } = cc in
-        let size : span.length ≡ length n = ap (λ (x : Span). x.length) span_is in
-        (omega (arith, long, length_super n, size), omega (arith, size, short.1))
-
-pub length_alone : (s : SoundParts) (j : Journal) → LawfulJournal j → Parts s j → s.name ≡ None → length (full j) ≡ 512 + 520 * s.count
-unfolding super_bytes
-length_alone s j ok p e = by j.super (sym e ∙ p.name) (length_parts s j ok p)
-  where
-    by : (o : Option Name) → None ≡ name_span s.count o → length (full j) ≡ 512 + 520 * s.count + length (super_bytes o) → length (full j) ≡ 512 + 520 * s.count
-    by None is long = omega (arith, long)
-    by (Some n) is long = let z : ◌≡◌ {A = ℕ} 0 1 = cc in absurd (omega arith)
-
-pub few_counted : (s : SoundParts) (j : Journal) → LawfulJournal j → Parts s j → s.count ≤ 33
-few_counted s j ok p = omega (arith, p.count, ok.few)
+        (o : Option Name) → length (full j) ≡ 512 + 520 * s.count + length (super_bytes o) → MatchOption (name_span s.count o) (k ≡ 0) (λ x. k ≡ x.length + 20) →
+        512 + 520 * s.count + k ≡ length (full j)
+    by None long is = omega (arith, long, is)
+    by (Some n) long is = omega (arith, long, length_super n, is)
 
 -- no journal is longer than the buffer
 pub length_limit : (j : Journal) → LawfulJournal j → length (full j) ≤ 17724
@@ -64,18 +48,6 @@ length_limit j ok = by j.super ok.name (length_encode (length j.records) j ok)
 pub front_of : (buffer old b : Bytes) (n : ℕ) → buffer ≡ overwrite old 0 b → n ≡ length b → take (n - 0) buffer ≡ b
 front_of buffer old b n e size = ap (take (n - 0)) e ∙ take_at b (drop (0 + length b) old) (n - 0) (omega arith)
 
--- the verdict on the bytes of a journal is that it is sound, with its parts
-pub sound_parts : (b : Bytes) (v : Verdict) (j : Journal) (s : SoundParts) → Judged b v → LawfulJournal j → b ≡ full j → v ≡ Sound s → Parts s j
-sound_parts b v j s judged ok e is =
-    let t = journal_laws.round_trip j ok v (subst (λ (x : Bytes). Judged x v) e judged) in
-    let same : t.0 ≡ s = cc (t.1, is) in
-    subst (λ (x : SoundParts). Parts x j) same t.2
-
-pub always_sound : (b : Bytes) (v : Verdict) (j : Journal) → Judged b v → LawfulJournal j → b ≡ full j → ((s : SoundParts) → v ≡ Sound s → ⊥) → ⊥
-always_sound b v j judged ok e not_sound =
-    let t = journal_laws.round_trip j ok v (subst (λ (x : Bytes). Judged x v) e judged) in
-    not_sound t.0 t.1
-
 pub some_same : (f : Option Bytes) (a b : Bytes) → f ≡ Some a → f ≡ Some b → a ≡ b
 some_same f a b p q = cc
 
@@ -88,3 +60,13 @@ told_judged f old new o v e h = subst (λ (x : Option Verdict). ToldVerdict f ol
 -- the buffer begins with the whole journal
 pub journal_read : (old new b : Bytes) (j : Journal) → LawfulJournal j → b ≡ full j → new ≡ overwrite old 0 (take 17724 b) → new ≡ overwrite old 0 (full j)
 journal_read old new b j ok e is = is ∙ ap (overwrite old 0) (take_all 17724 b (subst (λ (x : Bytes). length x ≤ 17724) (sym e) (length_limit j ok)) ∙ e)
+
+-- a whole journal is judged sound, with its parts, and then lies at the front of the buffer
+pub sound_told :
+    (f : Option Bytes) (old new : Bytes) (o : Option Verdict) (j : Journal) → ToldVerdict f old (Ok o) new → LawfulJournal j → f ≡ Some (full j) →
+    (s : SoundParts) × (o ≡ Some (Sound s)) × Parts s j × (new ≡ overwrite old 0 (full j))
+sound_told f old new None j h ok e = let is : f ≡ None = h.0 in let z : ◌≡◌ {A = ℕ} 0 1 = cc in absurd (omega arith)
+sound_told f old new (Some v) j h ok e =
+    let same = some_same f h.0 (full j) h.1 e in
+    let t = journal_laws.round_trip j ok v (subst (λ (x : Bytes). Judged x v) same h.2) in
+    (t.0, ap (λ (x : Verdict). Some x) t.1, t.2, journal_read old new h.0 j ok same h.3)

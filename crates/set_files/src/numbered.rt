@@ -1,4 +1,6 @@
 // Calls of the card on the files of a set, by their numbers: 0 to 3 a database, 4 to 7 its journal, 8 the super-journal.
+// The card and the names go side by side here and above: in one struct, lent as a whole, each function would
+// also have to promise that the names stay as they are.
 ghost use Rattle.std.specs.Prelude.{[], ◌∷◌, Some};
 ghost use Rattle.card.specs.Calls.Op.{length_of, delete as deletes};
 ghost use Rattle.journal.specs.OnCard.{judge_acts};
@@ -21,8 +23,7 @@ pub fn length_of<C: Card>(
     ensures went { Went C.Card.meaning (task (record { step = Some step; file = file; «record» = 0 }) (file_of names.now file) length_of ∷ []) card.old result card.new }
     ensures told { ToldLength (C.Card.meaning.holds card.old (file_of names.now file)) result }
 {
-    let name = names.file(file);
-    Site::new(step, file).length(card, name.bytes())
+    Site::new(step, file).length(card, names.file(file).bytes())
 }
 
 /// Deletes the file of a number.
@@ -34,8 +35,7 @@ pub fn delete_file<C: Card>(
 ) -> Result<(), SetFault>
     ensures { Went C.Card.meaning (task (record { step = Some step; file = file; «record» = 0 }) (file_of names.now file) deletes ∷ []) card.old result card.new }
 {
-    let name = names.file(file);
-    Site::new(step, file).delete(card, name.bytes())
+    Site::new(step, file).delete(card, names.file(file).bytes())
 }
 
 /// Judges the file of a number as a journal; none if it is absent. The buffer then has the journal's bytes.
@@ -49,6 +49,5 @@ pub fn judge_numbered<C: Card>(
     ensures went { Went C.Card.meaning (tasks (record { step = Some step; file = file; «record» = 0 }) (judge_acts (file_of names.now file) (C.Card.meaning.holds card.old (file_of names.now file)))) card.old result card.new }
     ensures told { ToldVerdict (C.Card.meaning.holds card.old (file_of names.now file)) buffer.old result buffer.new }
 {
-    let name = names.file(file);
-    Site::new(step, file).told(judge_file(card, name.bytes(), buffer))
+    Site::new(step, file).told(judge_file(card, names.file(file).bytes(), buffer))
 }

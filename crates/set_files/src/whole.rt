@@ -12,11 +12,8 @@ fn journal_length(sound: &Sound) -> usize
     requires { (j : Journal) × LawfulJournal j × Parts sound.now j }
     ensures { (j : Journal) → LawfulJournal j → Parts sound.now j → result ≡ count_of (full j) }
 {
-    let end = SECTOR + RECORD * sound.count as usize;
-    match sound.name {
-        Some(span) => end + span.length + SUPER_EXTRA,
-        None => end,
-    }
+    let named = sound.name.map_or(0, |span| span.length + SUPER_EXTRA);
+    SECTOR + RECORD * sound.count as usize + named
 }
 
 /// The bytes of a journal that was read into the buffer and found sound. For the crates of this

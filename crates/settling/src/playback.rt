@@ -35,10 +35,9 @@ fn write_record<C: Card>(
     let Some(page) = sound.page(bytes, index) else {
         unreachable()
     };
-    let name = names.file(d);
     Site::of_record(Step::R2, d, index + 1).write(
         card,
-        name.bytes(),
+        names.file(d).bytes(),
         (number - 1) * PAGE as u32,
         page,
     )
@@ -86,6 +85,7 @@ fn reread<C: Card>(
     ensures went { (j : Journal) → LawfulJournal j → C.Card.meaning.holds card.old (file_of names.now (4 + d)) ≡ Some (full j) → Went C.Card.meaning (tasks (place_of R2 (4 + d) 0) (judge_acts (file_of names.now (4 + d)) (Some (full j)))) card.old result card.new }
     ensures told { IfOk result (λ s. (j : Journal) → LawfulJournal j → C.Card.meaning.holds card.old (file_of names.now (4 + d)) ≡ Some (full j) → Parts s j × (buffer.new ≡ overwrite buffer.old 0 (full j))) }
 {
+    // In two steps: where one pattern for both fails, a proof learns nothing of the verdict.
     let Some(verdict) = judge_numbered(card, names, Step::R2, DATABASES + d, buffer)? else {
         unreachable()
     };

@@ -36,10 +36,10 @@ fn restore<C: Card>(
 fn delete_super<C: Card>(card: &mut C, names: &Names) -> Result<(), SetFault>
     ensures { Went C.Card.meaning (super_tasks (file_of names.now) (C.Card.meaning.holds card.old (file_of names.now 8))) card.old result card.new }
 {
-    let Some(_) = length_of(card, names, Step::R3, SUPER_JOURNAL)? else {
-        return Ok(());
-    };
-    delete_file(card, names, Step::R3, SUPER_JOURNAL)
+    match length_of(card, names, Step::R3, SUPER_JOURNAL)? {
+        None => Ok(()),
+        Some(_) => delete_file(card, names, Step::R3, SUPER_JOURNAL),
+    }
 }
 
 /// Restores each database by what was found of its journal.
@@ -52,8 +52,8 @@ fn restore_all<C: Card>(
     requires { (seen : ℕ → Seen) × AllSeen (C.Card.meaning.holds card.old) (file_of names.now) names.now.count found.now seen }
     ensures { (seen : ℕ → Seen) → AllSeen (C.Card.meaning.holds card.old) (file_of names.now) names.now.count found.now seen → Went C.Card.meaning (all_tasks (file_of names.now) names.now.count seen) card.old result card.new }
 {
-    for d in 0..names.count() {
-        restore(card, names, d, found[d], buffer)?;
+    for (d, found) in found[0..names.count()].iter().enumerate() {
+        restore(card, names, d, *found, buffer)?;
     }
     Ok(())
 }

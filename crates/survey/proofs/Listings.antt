@@ -1,24 +1,11 @@
 -- The names that a super-journal lists.
-use Rattle.std.proofs.Common.{◌≡◌, ℕ, zero, suc, ◌-◌, ◌*◌, ◌<◌, ◌≤◌, min, ◌⊎◌, List, [], ◌∷◌, ◌++◌, length, get_or, take, drop, Some, Option, sym, refl, ap, ◌∙◌, inl, inr, arith, length-append, length-drop, length-take}
+use Rattle.std.proofs.Common.{◌≡◌, ℕ, zero, suc, ◌-◌, ◌*◌, ◌<◌, ◌≤◌, List, [], ◌∷◌, ◌++◌, length, get_or, take, Some, Option, sym, refl, ap, ◌∙◌, arith, length-append, length-take}
 use Rattle.std.proofs.lemmas.List.{take_all, take_at}
-use Rattle.std.proofs.lemmas.Bool.{cases_lt}
 use Rattle.std.specs.List.{AllByRecursion}
 use Rattle.card.specs.Meaning.{Bytes, Name}
 use Rattle.card.specs.Calls.{part, part_of}
 use Rattle.super_journal.specs.Super.{super_journal_bytes, LawfulNames, Plain, lying_at}
 use Rattle.journal.specs.declared.verdict.Span.{Span}
-
--- a front is no longer than the list
-pub cut : (n k : ℕ) (xs : Bytes) → k ≡ min n (length xs) → take k xs ≡ take n xs
-cut n k xs e = by (cases_lt (length xs) n)
-  where
-    by : (length xs < n) ⊎ (n ≤ length xs) → take k xs ≡ take n xs
-    by (inl lt) = take_all k xs (omega arith) ∙ sym (take_all n xs (omega arith))
-    by (inr le) = ap (λ (i : ℕ). take i xs) (let is : k ≡ n = omega arith in is)
-
--- a part that is not empty begins in the bytes
-pub inside : (b : Bytes) (p n : ℕ) → 1 ≤ length (part b p n) → p < length b
-inside b p n h = omega (arith, h, length-take n (drop p b), length-drop p b)
 
 abbrev pub no_span : Span
 no_span = record { place = 0; length = 0 }
@@ -32,11 +19,6 @@ pub lying_here : (b : Bytes) (ss : List Span) (i : ℕ) → i < length ss → ge
 lying_here b [] i lt = absurd (omega arith)
 lying_here b (s ∷ ss) zero lt = refl
 lying_here b (s ∷ ss) (suc i) lt = lying_here b ss i (omega arith)
-
-pub all_at : (P : Name → Type 0) (ns : List Name) (i : ℕ) → AllByRecursion P ns → i < length ns → P (get_or ns i [])
-all_at P [] i a lt = absurd (omega arith)
-all_at P (n ∷ ns) zero a lt = a.0
-all_at P (n ∷ ns) (suc i) a lt = all_at P ns i a.1 (omega arith)
 
 names_each : (ns : List Name) → AllByRecursion Plain ns → length (super_journal_bytes ns) ≤ 33 * length ns
 unfolding super_journal_bytes

@@ -16,6 +16,12 @@ use set_files::length_of;
 use steps::Site;
 use super_journal::read_names;
 
+/// Why a super-journal that is no list of names is refused.
+const NO_LIST: Refusal = Refusal::Damaged {
+    file: SUPER_JOURNAL,
+    record: 0,
+};
+
 /// The name that lies at a place of the bytes.
 fn name_at(bytes: &[u8], span: Span) -> &[u8]
     requires { 1 ≤ count_of (part bytes.now span.place span.length) }
@@ -34,10 +40,10 @@ fn check_listed<C: Card>(card: &mut C, names: &Names, name: &[u8]) -> Result<(),
     if names.is_journal(name) {
         return Ok(());
     }
-    let Some(_) = Site::new(Step::R1, FOREIGN).length(card, name)? else {
-        return Ok(());
-    };
-    Err(Refusal::Foreign(FOREIGN))
+    match Site::new(Step::R1, FOREIGN).length(card, name)? {
+        None => Ok(()),
+        Some(_) => Err(Refusal::Foreign(FOREIGN)),
+    }
 }
 
 /// Tests each file whose name lies at one of the places of the bytes.
@@ -51,8 +57,8 @@ fn check_names<C: Card>(
     ensures looked { Looked C.Card.meaning R1 (file_of names.now) card.old (dropped result) card.new }
     ensures told { Told result (λ _. AllFine (C.Card.meaning.holds card.old) (file_of names.now) names.now.count (lying_at bytes.now places.now)) never₂ (λ f. (f ≡ 9) × Stray (C.Card.meaning.holds card.old) (file_of names.now) names.now.count (lying_at bytes.now places.now)) never }
 {
-    for i in 0..places.len() {
-        check_listed(card, names, name_at(bytes, places[i]))?;
+    for span in places {
+        check_listed(card, names, name_at(bytes, *span))?;
     }
     Ok(())
 }
@@ -62,12 +68,7 @@ fn check_list<C: Card>(card: &mut C, names: &Names, bytes: &[u8]) -> Result<(), 
     ensures looked { Looked C.Card.meaning R1 (file_of names.now) card.old (dropped result) card.new }
     ensures told { Told result (λ _. (ns : List Name) × Listed (C.Card.meaning.holds card.old) (file_of names.now) names.now.count bytes.now ns) (λ f k. (f ≡ 8) × (k ≡ 0) × NoNames bytes.now) (λ f. (f ≡ 9) × ((ns : List Name) × Strays (C.Card.meaning.holds card.old) (file_of names.now) names.now.count bytes.now ns)) never }
 {
-    let Some(list) = read_names(bytes) else {
-        return Err(Refusal::Damaged {
-            file: SUPER_JOURNAL,
-            record: 0,
-        });
-    };
+    let list = read_names(bytes).ok_or(NO_LIST)?;
     check_names(card, names, bytes, list.as_slice())
 }
 
@@ -104,11 +105,6 @@ pub(crate) fn check_super<C: Card>(
     ensures looked { Looked C.Card.meaning R1 (file_of names.now) card.old (dropped result) card.new }
     ensures told { Told result (λ _. (b : List ℕ) × (C.Card.meaning.holds card.old (file_of names.now 8) ≡ Some b) × ((ns : List Name) × Listed (C.Card.meaning.holds card.old) (file_of names.now) names.now.count b ns)) (λ f k. (f ≡ 8) × (k ≡ 0) × ((b : List ℕ) × (C.Card.meaning.holds card.old (file_of names.now 8) ≡ Some b) × NoNames b)) (λ f. (f ≡ 9) × ((b : List ℕ) × (C.Card.meaning.holds card.old (file_of names.now 8) ≡ Some b) × ((ns : List Name) × Strays (C.Card.meaning.holds card.old) (file_of names.now) names.now.count b ns))) never }
 {
-    let Some(length) = read_super(card, names, buffer)? else {
-        return Err(Refusal::Damaged {
-            file: SUPER_JOURNAL,
-            record: 0,
-        });
-    };
+    let length = read_super(card, names, buffer)?.ok_or(NO_LIST)?;
     check_list(card, names, &buffer[0..length])
 }

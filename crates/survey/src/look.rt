@@ -1,25 +1,27 @@
 // What is found of one journal.
-use crate::report::Found;
-use names::DATABASES;
+ghost use Rattle.std.specs.Prelude.{◌≡◌, None};
 
-/// Which super-journal a hot journal names: none, the set's, or another.
+use crate::report::Found;
+
+/// Which super-journal a hot journal names: the set's, or another.
 #[derive(Clone, Copy, PartialEq, Eq)]
 pub(crate) enum Link {
-    None,
     Ours,
     Other,
 }
 
-/// What a journal is, and which super-journal it names if it is hot.
+/// What a journal is, and which super-journal it names if it is hot and names one.
 #[derive(Clone, Copy)]
 pub(crate) struct Look {
     pub found: Found,
-    pub link: Link,
+    pub link: Option<Link>,
 }
 
-/// What the journals of a set are, by database.
-#[derive(Clone, Copy)]
-pub(crate) struct Journals {
-    pub found: [Found; DATABASES],
-    pub links: [Link; DATABASES],
+impl Look {
+    /// A journal with no link to a super-journal.
+    pub(crate) fn alone(found: Found) -> Look
+        ensures { result ≡ record { found = found; link = None } }
+    {
+        Look { found, link: None }
+    }
 }

@@ -1,18 +1,28 @@
 // What is found before anything is changed.
+ghost use Rattle.std.specs.Prelude.{◌≡◌, ℕ, ◌<◌};
 ghost use Rattle.refusal.specs.declared.step.Step.TheVariants.{R1};
 ghost use Rattle.set_files.specs.Files.{file_of};
-ghost use Rattle.survey.specs.Finds.{Finds};
 ghost use Rattle.set_files.specs.Looked.{Looked, dropped};
+ghost use Rattle.survey.specs.Finds.{Finds};
+ghost use Rattle.survey.specs.Linked.{look_at};
+ghost use Rattle.survey.specs.Seen.{found_at};
 
 use crate::journals::{first_linked, judge_journals};
 use crate::listing::check_super;
-use crate::look::Link;
+use crate::look::{Link, Look};
 use crate::presence::all_present;
 use crate::report::Found;
 use card::Card;
 use journal::JOURNAL_LIMIT;
 use names::{DATABASES, Names};
 use refusal::Refusal;
+
+/// What each journal was found to be.
+fn found_of(looks: [Look; DATABASES]) -> [Found; DATABASES]
+    ensures { (d : ℕ) → d < 4 → found_at result d ≡ (look_at looks d).found }
+{
+    looks.map(|look| look.found)
+}
 
 /// What each database's journal is. It is refused, in this order, for an absent database, a damaged
 /// journal, a hot journal that names another super-journal, and a super-journal that is damaged or
@@ -26,13 +36,12 @@ pub fn survey<C: Card>(
     ensures told { Finds (C.Card.meaning.holds card.old) (file_of names.now) names.now.count result }
 {
     all_present(card, names)?;
-    let journals = judge_journals(card, names, buffer)?;
-    if let Some(d) = first_linked(&journals.links, names.count(), Link::Other) {
+    let looks = judge_journals(card, names, buffer)?;
+    if let Some(d) = first_linked(&looks, Link::Other) {
         return Err(Refusal::Foreign(DATABASES + d));
     }
-    let Some(_) = first_linked(&journals.links, names.count(), Link::Ours) else {
-        return Ok(journals.found);
-    };
-    check_super(card, names, buffer)?;
-    Ok(journals.found)
+    if first_linked(&looks, Link::Ours).is_some() {
+        check_super(card, names, buffer)?;
+    }
+    Ok(found_of(looks))
 }

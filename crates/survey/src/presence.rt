@@ -15,9 +15,7 @@ pub(crate) fn all_present<C: Card>(card: &mut C, names: &Names) -> Result<(), Re
     ensures told { Told result (λ _. AllPresent (C.Card.meaning.holds card.old) (file_of names.now) names.now.count) never₂ never (FirstAbsent (C.Card.meaning.holds card.old) (file_of names.now) names.now.count) }
 {
     for d in 0..names.count() {
-        let Some(_) = length_of(card, names, Step::R1, d)? else {
-            return Err(Refusal::Database(d));
-        };
+        length_of(card, names, Step::R1, d)?.ok_or(Refusal::Database(d))?;
     }
     Ok(())
 }

@@ -1,15 +1,12 @@
-use Rattle.std.proofs.Common.{Ok, Err, sym, refl, ap, ◌∙◌, subst}
-use Rattle.std.proofs.lemmas.Result.{err_from_is_err_and}
-use Rattle.refusal.specs.declared.refusals.Refusal.{Refusal}
+use Rattle.std.proofs.Common.{Ok, Err, sym, refl, subst}
 use Rattle.set_files.specs.Files.{Holds, file_of}
 use Rattle.survey.specs.Seen.{AllSeen}
-use Rattle.set_files.proofs.Looks.{looked_same}
+use Rattle.set_files.proofs.Looks.{looked_same, passed_up}
 use Rattle.recovery.proofs.recovering.recover.Goals as goal
 
 pub returns-in_err-found : goal.returns-in_err-found
 returns-in_err-found g c =
-    let p = err_from_is_err_and c.from_residual.result c.from_residual.ensures.1 in
-    let failed = p.1 ∙ ap (λ (e : Refusal). Err e) p.2 in
+    let failed = passed_up _ _ c.from_residual.ensures.1 in
     record {
       start = c.power.new.self;
       then = c.survey.new.card;
@@ -30,8 +27,7 @@ settle-requires g c =
 
 pub returns-in_err-settle : goal.returns-in_err-settle
 returns-in_err-settle g c =
-    let p = err_from_is_err_and c.from_residual-in_err-settle.result c.from_residual-in_err-settle.ensures.1 in
-    let failed = p.1 ∙ ap (λ (e : Refusal). Err e) p.2 in
+    let failed = passed_up _ _ c.from_residual-in_err-settle.ensures.1 in
     record {
       start = c.power.new.self;
       then = c.survey.new.card;
@@ -44,8 +40,7 @@ returns-in_err-settle g c =
 
 pub returns-in_err-sizes : goal.returns-in_err-sizes
 returns-in_err-sizes g c =
-    let p = err_from_is_err_and c.from_residual-in_err-sizes.result c.from_residual-in_err-sizes.ensures.1 in
-    let failed = p.1 ∙ ap (λ (e : Refusal). Err e) p.2 in
+    let failed = passed_up _ _ c.from_residual-in_err-sizes.ensures.1 in
     record {
       start = c.power.new.self;
       then = c.survey.new.card;

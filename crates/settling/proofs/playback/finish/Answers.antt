@@ -1,29 +1,24 @@
-use Rattle.std.proofs.Common.{[], ◌∷◌, Err, ap, ◌∙◌}
-use Rattle.std.proofs.lemmas.Result.{err_from_is_err_and}
-use Rattle.refusal.specs.declared.fault.SetFault.{SetFault}
-use Rattle.set_files.proofs.Looks.{went_as}
+use Rattle.std.proofs.Common.{[], ◌∷◌, refl, ◌∙◌}
+use Rattle.steps.proofs.Went.{went_as}
+use Rattle.set_files.proofs.Looks.{passed_up}
 use Rattle.settling.proofs.UpTo.{went_next, went_fail}
 use Rattle.settling.proofs.playback.finish.Goals as goal
 
 pub returns-in_err-set_length : goal.returns-in_err-set_length
 returns-in_err-set_length g c =
-    let p = err_from_is_err_and c.from_residual.result c.from_residual.ensures.1 in
-    let failed = p.1 ∙ ap (λ (e : SetFault). Err e) p.2 in
     let name = c.bytes.ensures ∙ c.file-name.ensures in
-    went_fail _ (_ ∷ []) _ _ _ _ _ failed (went_as _ _ _ _ _ _ _ _ _ c.new-site.ensures name c.in_err-set_length.ensures)
+    went_fail _ (_ ∷ []) _ _ _ _ _ (passed_up _ _ c.from_residual.ensures.1) (went_as _ _ _ _ _ _ _ _ _ _ c.new-site.ensures name refl c.in_err-set_length.ensures)
 
 pub returns-in_err-sync : goal.returns-in_err-sync
 returns-in_err-sync g c =
-    let p = err_from_is_err_and c.from_residual-in_err-sync.result c.from_residual-in_err-sync.ensures.1 in
-    let failed = p.1 ∙ ap (λ (e : SetFault). Err e) p.2 in
     let name = c.bytes.ensures ∙ c.file-name.ensures in
     let name₂ = c.bytes-2.ensures ∙ c.file-name.ensures in
-    went_next _ _ _ _ _ _ _ _ (went_as _ _ _ _ _ _ _ _ _ c.new-site.ensures name c.in_ok-set_length.ensures)
-    (went_fail _ (_ ∷ []) _ _ _ _ _ failed (went_as _ _ _ _ _ _ _ _ _ c.new-site.ensures name₂ c.in_err-sync.ensures))
+    went_next _ _ _ _ _ _ _ _ (went_as _ _ _ _ _ _ _ _ _ _ c.new-site.ensures name refl c.in_ok-set_length.ensures)
+    (went_fail _ (_ ∷ []) _ _ _ _ _ (passed_up _ _ c.from_residual-in_err-sync.ensures.1) (went_as _ _ _ _ _ _ _ _ _ _ c.new-site.ensures name₂ refl c.in_err-sync.ensures))
 
 pub returns : goal.returns
 returns g c =
     let name = c.bytes.ensures ∙ c.file-name.ensures in
     let name₂ = c.bytes-2.ensures ∙ c.file-name.ensures in
-    went_next _ _ _ _ _ _ _ _ (went_as _ _ _ _ _ _ _ _ _ c.new-site.ensures name c.in_ok-set_length.ensures)
-    (went_next _ _ _ _ _ _ _ _ (went_as _ _ _ _ _ _ _ _ _ c.new-site.ensures name₂ c.in_ok-sync.ensures) c.delete_file.ensures)
+    went_next _ _ _ _ _ _ _ _ (went_as _ _ _ _ _ _ _ _ _ _ c.new-site.ensures name refl c.in_ok-set_length.ensures)
+    (went_next _ _ _ _ _ _ _ _ (went_as _ _ _ _ _ _ _ _ _ _ c.new-site.ensures name₂ refl c.in_ok-sync.ensures) c.delete_file.ensures)

@@ -1,8 +1,6 @@
-use Rattle.std.proofs.Common.{ℕ, [], ◌∷◌, Err, ap, ◌∙◌, subst}
-use Rattle.card.specs.Meaning.{Meaning}
+use Rattle.std.proofs.Common.{ℕ, [], ◌∷◌, subst}
 use Rattle.steps.specs.Tasks.{Went}
-use Rattle.std.proofs.lemmas.Result.{err_from_is_err_and}
-use Rattle.refusal.specs.declared.fault.SetFault.{SetFault}
+use Rattle.set_files.proofs.Looks.{passed_up}
 use Rattle.set_files.specs.Files.{file_of}
 use Rattle.settling.specs.Settled.{finish_tasks}
 use Rattle.journal.specs.declared.verdict.Sound.{Sound as SoundParts}
@@ -12,14 +10,12 @@ use Rattle.settling.proofs.playback.play.Goals as goal
 
 pub returns-in_err-sound : goal.returns-in_err-sound
 returns-in_err-sound g c =
-    let p = err_from_is_err_and c.from_residual.result c.from_residual.ensures.1 in
-    let failed = p.1 ∙ ap (λ (e : SetFault). Err e) p.2 in
+    let failed = passed_up _ _ c.from_residual.ensures.1 in
     λ j ok e. went_fail _ {V = SoundParts} (_ ∷ _ ∷ []) _ _ _ _ _ failed (c.in_err-sound.ensures.went j ok e)
 
 pub returns-in_err-write_records : goal.returns-in_err-write_records
 returns-in_err-write_records g c =
-    let p = err_from_is_err_and c.from_residual-in_err-write_records.result c.from_residual-in_err-write_records.ensures.1 in
-    let failed = p.1 ∙ ap (λ (e : SetFault). Err e) p.2 in
+    let failed = passed_up _ _ c.from_residual-in_err-write_records.ensures.1 in
     λ j ok e.
     let told = c.in_ok-sound.ensures.told j ok e in
     went_then _ (_ ∷ _ ∷ []) _ _ _ _ _ _ (c.in_ok-sound.ensures.went j ok e)
@@ -27,10 +23,9 @@ returns-in_err-write_records g c =
 
 pub returns : goal.returns
 returns g c =
-    let m : Meaning g.row.C.Denot = g.C.Card.meaning in
     λ j ok e.
     let told = c.in_ok-sound.ensures.told j ok e in
     let finished =
-    subst (λ (k : ℕ). Went m (finish_tasks (file_of c.args.names.now) c.args.d k) c.write_records.new.card c.finish.result c.finish.new.card) told.0.size c.finish.ensures in
+    subst (λ (k : ℕ). Went g.C.Card.meaning (finish_tasks (file_of c.args.names.now) c.args.d k) c.write_records.new.card c.finish.result c.finish.new.card) told.0.size c.finish.ensures in
     went_then _ (_ ∷ _ ∷ []) _ _ _ _ _ _ (c.in_ok-sound.ensures.went j ok e)
     (went_then _ _ _ _ _ _ _ _ (c.in_ok-write_records.ensures j (c.journal_in.ensures j _ ok told.0 told.1)) finished)

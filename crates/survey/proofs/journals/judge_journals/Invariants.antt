@@ -1,11 +1,11 @@
-use Rattle.std.proofs.Common.{Ok}
+use Rattle.std.proofs.Common.{ℕ, ◌<◌, Ok}
 use Rattle.refusal.specs.declared.step.Step.TheVariants.{R1}
 use Rattle.set_files.specs.Files.{file_of}
 use Rattle.set_files.specs.Looked.{Looked}
-use Rattle.survey.proofs.Surveyed.{LookedTo}
+use Rattle.survey.specs.Linked.{LookedAs, look_at}
 use Rattle.survey.proofs.journals.judge_journals.Given as goal
 
 abbrev pub invariant-loop-d : goal.invariant-loop-d
 invariant-loop-d g l =
     Looked g.C.Card.meaning R1 (file_of l.names) l.initial.card (Ok tt) l.card
-    × LookedTo (g.C.Card.meaning.holds l.initial.card) (file_of l.names) l.d l.found l.links
+    × ((k : ℕ) → k < l.d → LookedAs (g.C.Card.meaning.holds l.initial.card) (file_of l.names) k (look_at l.kept k))

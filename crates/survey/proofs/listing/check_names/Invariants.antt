@@ -6,7 +6,7 @@ use Rattle.survey.specs.Finds.{JournalName}
 use Rattle.set_files.specs.Looked.{Looked}
 use Rattle.survey.proofs.listing.check_names.Given as goal
 
-abbrev pub invariant-loop-i : goal.invariant-loop-i
-invariant-loop-i g l =
+abbrev pub invariant-loop-span : goal.invariant-loop-span
+invariant-loop-span g l =
     Looked g.C.Card.meaning R1 (file_of l.names) l.initial.card (Ok tt) l.card
-    × ((k : ℕ) → k < l.i → JournalName (file_of l.names) l.names.count (get_or (lying_at l.bytes l.places) k []) ⊎ (g.C.Card.meaning.holds l.initial.card (get_or (lying_at l.bytes l.places) k []) ≡ None))
+    × ((k : ℕ) → k < l.span-index → JournalName (file_of l.names) l.names.count (get_or (lying_at l.bytes l.places) k []) ⊎ (g.C.Card.meaning.holds l.initial.card (get_or (lying_at l.bytes l.places) k []) ≡ None))
