@@ -1,18 +1,13 @@
 // The delayed card and the trouble layer at their limits.
-use card::{Card, CardCall, CardFault, Cause};
+use crate::refused::refused;
+use card::CardCall::{Create, Length, Sync};
+use card::Cause::{Device, Power, Present};
+use card::{Card, CardFault};
 use cards::{DelayedCard, TroubleLayer, Untold};
 use std::test::Fail;
 
 /// Two halves of 16 slots, with 8 bytes for each file.
 const IMAGE: usize = 1440;
-
-fn fault(call: CardCall, cause: Cause, origin: u8) -> CardFault {
-    CardFault {
-        cause,
-        call,
-        origin,
-    }
-}
 
 /// A call that the card is cut at.
 #[derive(Clone, Copy)]
@@ -37,36 +32,28 @@ fn make<C: Card>(card: &mut C, call: Last) -> Result<(), CardFault> {
     }
 }
 
-/// The length of a file, 99 if it is absent.
-fn size<C: Card>(card: &mut C, name: &[u8]) -> u32 {
-    match card.length(name) {
-        Ok(Some(n)) => n,
-        Ok(None) => 99,
-        Err(_) => 98,
-    }
-}
-
 /// What is left of the files f and g after the call was cut: their lengths and the bytes of f.
-fn left(call: Last, kept: u8) -> (u32, u32, [u8; 8]) {
+fn left(call: Last, kept: u8) -> Result<(Option<u32>, Option<u32>, [u8; 8]), Fail> {
     let mut bytes = [b'-'; 8];
     let mut image = [0xffu8; IMAGE];
     let mut card = DelayedCard::new(&mut image, 3);
-    let _ = card.create(b"f");
-    let _ = card.write(b"f", 0, b"ab");
-    let _ = card.sync(b"f");
-    let _ = card.write(b"f", 2, b"cd");
-    let _ = card.lose_power_at(1, kept);
+    card.create(b"f")?;
+    card.write(b"f", 0, b"ab")?;
+    card.sync(b"f")?;
+    card.write(b"f", 2, b"cd")?;
+    card.lose_power_at(1, kept)?;
     let _ = make(&mut card, call);
     card.power();
-    let f = size(&mut card, b"f");
-    let g = size(&mut card, b"g");
-    let n = (f as usize).min(8);
-    let _ = card.read(b"f", 0, &mut bytes[0..n]);
-    (f, g, bytes)
+    let f = card.length(b"f")?;
+    let g = card.length(b"g")?;
+    if let Some(length) = f {
+        card.read(b"f", 0, &mut bytes[0..(length as usize).min(8)])?;
+    }
+    Ok((f, g, bytes))
 }
 
 #[test]
-fn what_was_synced_is_kept(rt: HostRuntime) {
+fn what_was_synced_is_kept(rt: HostRuntime) -> Result<(), Fail> {
     for call in [
         Last::Write,
         Last::Longer,
@@ -75,28 +62,31 @@ fn what_was_synced_is_kept(rt: HostRuntime) {
         Last::Delete,
         Last::Sync,
     ] {
-        assert_eq!(rt; left(call, 0), (2, 99, *b"ab------"));
+        assert_eq!(rt; left(call, 0)?, (Some(2), None, *b"ab------"));
     }
+    Ok(())
 }
 
 #[test]
-fn all_is_kept(rt: HostRuntime) {
-    assert_eq!(rt; left(Last::Write, 1), (5, 99, *b"aXYZW---"));
-    assert_eq!(rt; left(Last::Longer, 1), (6, 99, *b"abcd\0\0--"));
-    assert_eq!(rt; left(Last::Shorter, 1), (1, 99, *b"a-------"));
-    assert_eq!(rt; left(Last::Create, 1), (4, 0, *b"abcd----"));
-    assert_eq!(rt; left(Last::Delete, 1), (99, 99, *b"--------"));
-    assert_eq!(rt; left(Last::Sync, 1), (4, 99, *b"abcd----"));
+fn all_is_kept(rt: HostRuntime) -> Result<(), Fail> {
+    assert_eq!(rt; left(Last::Write, 1)?, (Some(5), None, *b"aXYZW---"));
+    assert_eq!(rt; left(Last::Longer, 1)?, (Some(6), None, *b"abcd\0\0--"));
+    assert_eq!(rt; left(Last::Shorter, 1)?, (Some(1), None, *b"a-------"));
+    assert_eq!(rt; left(Last::Create, 1)?, (Some(4), Some(0), *b"abcd----"));
+    assert_eq!(rt; left(Last::Delete, 1)?, (None, None, *b"--------"));
+    assert_eq!(rt; left(Last::Sync, 1)?, (Some(4), None, *b"abcd----"));
+    Ok(())
 }
 
 #[test]
-fn a_mix_is_kept(rt: HostRuntime) {
-    assert_eq!(rt; left(Last::Write, 2), (5, 99, *b"abY\0W---"));
-    assert_eq!(rt; left(Last::Longer, 2), (6, 99, *b"abc\0\0\0--"));
-    assert_eq!(rt; left(Last::Shorter, 2), (2, 99, *b"ab------"));
-    assert_eq!(rt; left(Last::Create, 2), (4, 0, *b"abc\0----"));
-    assert_eq!(rt; left(Last::Delete, 2), (99, 99, *b"--------"));
-    assert_eq!(rt; left(Last::Sync, 2), (4, 99, *b"abcd----"));
+fn a_mix_is_kept(rt: HostRuntime) -> Result<(), Fail> {
+    assert_eq!(rt; left(Last::Write, 2)?, (Some(5), None, *b"abY\0W---"));
+    assert_eq!(rt; left(Last::Longer, 2)?, (Some(6), None, *b"abc\0\0\0--"));
+    assert_eq!(rt; left(Last::Shorter, 2)?, (Some(2), None, *b"ab------"));
+    assert_eq!(rt; left(Last::Create, 2)?, (Some(4), Some(0), *b"abc\0----"));
+    assert_eq!(rt; left(Last::Delete, 2)?, (None, None, *b"--------"));
+    assert_eq!(rt; left(Last::Sync, 2)?, (Some(4), None, *b"abcd----"));
+    Ok(())
 }
 
 #[test]
@@ -108,16 +98,10 @@ fn tellings_count_every_call(rt: HostRuntime) {
     assert_eq!(rt; card.create(b"f"), Ok(()));
     assert_eq!(rt; card.lose_power_at(5, 0), Ok(()));
     assert_eq!(rt; card.lose_power_at(1, 1), Ok(()));
-    assert_eq!(rt;
-        card.sync(b"f"),
-        Err(fault(CardCall::Sync, Cause::Power, 3))
-    );
+    assert_eq!(rt; card.sync(b"f"), refused(Sync, Power, 3));
     assert!(rt; !card.powered());
     assert_eq!(rt; card.lose_power_at(1, 0), Ok(()));
-    assert_eq!(rt;
-        card.sync(b"f"),
-        Err(fault(CardCall::Sync, Cause::Power, 3))
-    );
+    assert_eq!(rt; card.sync(b"f"), refused(Sync, Power, 3));
     card.power();
     assert_eq!(rt; card.sync(b"f"), Ok(()));
 }
@@ -133,23 +117,11 @@ fn layers_refuse_what_they_were_given(rt: HostRuntime) -> Result<(), Fail> {
         return Err(Fail::new("one number"));
     };
     assert_eq!(rt; outer.create(b"f"), Ok(()));
-    assert_eq!(rt;
-        outer.create(b"g"),
-        Err(fault(CardCall::Create, Cause::Device, 4))
-    );
-    assert_eq!(rt;
-        outer.create(b"g"),
-        Err(fault(CardCall::Create, Cause::Device, 5))
-    );
-    assert_eq!(rt;
-        outer.create(b"f"),
-        Err(fault(CardCall::Create, Cause::Present, 3))
-    );
+    assert_eq!(rt; outer.create(b"g"), refused(Create, Device, 4));
+    assert_eq!(rt; outer.create(b"g"), refused(Create, Device, 5));
+    assert_eq!(rt; outer.create(b"f"), refused(Create, Present, 3));
     assert_eq!(rt; outer.length(b"g"), Ok(None));
-    assert_eq!(rt;
-        outer.length(b"g"),
-        Err(fault(CardCall::Length, Cause::Device, 4))
-    );
+    assert_eq!(rt; outer.length(b"g"), refused(Length, Device, 4));
     Ok(())
 }
 

@@ -1,17 +1,12 @@
 // The direct card at its limits.
-use card::{Card, CardCall, CardFault, Cause};
+use crate::refused::refused;
+use card::Card;
+use card::CardCall::{Create, Delete, Length, Read, SetLength, Sync, Write};
+use card::Cause::{Absent, Device, Present, Range};
 use cards::DirectCard;
 
 /// An image of 16 slots with 3 bytes for each file.
 const SMALL: usize = 640;
-
-fn fault(call: CardCall, cause: Cause) -> CardFault {
-    CardFault {
-        cause,
-        call,
-        origin: 9,
-    }
-}
 
 #[test]
 fn names_have_1_to_32_bytes(rt: HostRuntime) {
@@ -20,22 +15,10 @@ fn names_have_1_to_32_bytes(rt: HostRuntime) {
     let name = [b'n'; 33];
     assert_eq!(rt; card.create(&name[0..32]), Ok(()));
     assert_eq!(rt; card.length(&name[0..32]), Ok(Some(0)));
-    assert_eq!(rt;
-        card.create(&name),
-        Err(fault(CardCall::Create, Cause::Range))
-    );
-    assert_eq!(rt;
-        card.length(&name),
-        Err(fault(CardCall::Length, Cause::Range))
-    );
-    assert_eq!(rt;
-        card.length(b""),
-        Err(fault(CardCall::Length, Cause::Range))
-    );
-    assert_eq!(rt;
-        card.delete(b""),
-        Err(fault(CardCall::Delete, Cause::Range))
-    );
+    assert_eq!(rt; card.create(&name), refused(Create, Range, 9));
+    assert_eq!(rt; card.length(&name), refused(Length, Range, 9));
+    assert_eq!(rt; card.length(b""), refused(Length, Range, 9));
+    assert_eq!(rt; card.delete(b""), refused(Delete, Range, 9));
 }
 
 #[test]
@@ -44,17 +27,11 @@ fn a_file_fills_its_slot_and_no_more(rt: HostRuntime) {
     let mut card = DirectCard::new(&mut image, 9);
     assert_eq!(rt; card.create(b"a"), Ok(()));
     assert_eq!(rt; card.write(b"a", 0, b"xyz"), Ok(()));
-    assert_eq!(rt;
-        card.write(b"a", 0, b"wxyz"),
-        Err(fault(CardCall::Write, Cause::Device))
-    );
-    assert_eq!(rt;
-        card.set_length(b"a", 4),
-        Err(fault(CardCall::SetLength, Cause::Device))
-    );
+    assert_eq!(rt; card.write(b"a", 0, b"wxyz"), refused(Write, Device, 9));
+    assert_eq!(rt; card.set_length(b"a", 4), refused(SetLength, Device, 9));
     assert_eq!(rt;
         card.set_length(b"a", 2_097_153),
-        Err(fault(CardCall::SetLength, Cause::Range))
+        refused(SetLength, Range, 9)
     );
     let mut bytes = [0u8; 3];
     assert_eq!(rt; card.read(b"a", 0, &mut bytes), Ok(()));
@@ -68,20 +45,11 @@ fn a_place_is_at_the_end_or_before_it(rt: HostRuntime) {
     assert_eq!(rt; card.create(b"a"), Ok(()));
     assert_eq!(rt; card.write(b"a", 0, b"xy"), Ok(()));
     assert_eq!(rt; card.write(b"a", 2, b""), Ok(()));
-    assert_eq!(rt;
-        card.write(b"a", 3, b""),
-        Err(fault(CardCall::Write, Cause::Range))
-    );
+    assert_eq!(rt; card.write(b"a", 3, b""), refused(Write, Range, 9));
     assert_eq!(rt; card.read(b"a", 2, &mut []), Ok(()));
-    assert_eq!(rt;
-        card.read(b"a", 3, &mut []),
-        Err(fault(CardCall::Read, Cause::Range))
-    );
+    assert_eq!(rt; card.read(b"a", 3, &mut []), refused(Read, Range, 9));
     let mut byte = [7u8; 1];
-    assert_eq!(rt;
-        card.read(b"a", 2, &mut byte),
-        Err(fault(CardCall::Read, Cause::Range))
-    );
+    assert_eq!(rt; card.read(b"a", 2, &mut byte), refused(Read, Range, 9));
     assert_eq!(rt; byte, [7u8; 1]);
     assert_eq!(rt; card.write(b"a", 2, b"z"), Ok(()));
     assert_eq!(rt; card.length(b"a"), Ok(Some(3)));
@@ -91,17 +59,11 @@ fn a_place_is_at_the_end_or_before_it(rt: HostRuntime) {
 fn a_17th_file_finds_no_slot(rt: HostRuntime) {
     let mut image = [0xffu8; SMALL];
     let mut card = DirectCard::new(&mut image, 9);
-    for k in 0..16u8 {
-        assert_eq!(rt; card.create(&[b'a' + k]), Ok(()));
+    for name in b'a'..=b'p' {
+        assert_eq!(rt; card.create(&[name]), Ok(()));
     }
-    assert_eq!(rt;
-        card.create(b"q"),
-        Err(fault(CardCall::Create, Cause::Device))
-    );
-    assert_eq!(rt;
-        card.create(b"a"),
-        Err(fault(CardCall::Create, Cause::Present))
-    );
+    assert_eq!(rt; card.create(b"q"), refused(Create, Device, 9));
+    assert_eq!(rt; card.create(b"a"), refused(Create, Present, 9));
     assert_eq!(rt; card.delete(b"h"), Ok(()));
     assert_eq!(rt; card.create(b"q"), Ok(()));
     assert_eq!(rt; card.length(b"h"), Ok(None));
@@ -111,22 +73,16 @@ fn a_17th_file_finds_no_slot(rt: HostRuntime) {
 fn an_image_of_15_bytes_has_no_slot(rt: HostRuntime) {
     let mut image = [0xffu8; 15];
     let mut card = DirectCard::new(&mut image, 9);
-    assert_eq!(rt;
-        card.create(b"a"),
-        Err(fault(CardCall::Create, Cause::Device))
-    );
+    assert_eq!(rt; card.create(b"a"), refused(Create, Device, 9));
     assert_eq!(rt; card.length(b"a"), Ok(None));
-    assert_eq!(rt; card.sync(b"a"), Err(fault(CardCall::Sync, Cause::Absent)));
+    assert_eq!(rt; card.sync(b"a"), refused(Sync, Absent, 9));
 }
 
 #[test]
 fn an_image_of_0_bytes_is_safe(rt: HostRuntime) {
     let mut image = [0u8; 0];
     let mut card = DirectCard::new(&mut image, 9);
-    assert_eq!(rt;
-        card.create(b"a"),
-        Err(fault(CardCall::Create, Cause::Device))
-    );
+    assert_eq!(rt; card.create(b"a"), refused(Create, Device, 9));
 }
 
 #[test]

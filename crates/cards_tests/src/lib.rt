@@ -5,3 +5,5 @@
 mod delayed_edges;
 #[cfg(test)]
 mod direct_edges;
+#[cfg(test)]
+mod refused;

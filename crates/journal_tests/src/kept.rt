@@ -1,7 +1,8 @@
 // A journal on a direct card.
+use crate::judged::sound;
 use card::{Card, CardCall, CardFault, Cause};
 use direct_card::DirectCard;
-use journal::{JOURNAL_LIMIT, JournalFault, Sound, Span, Verdict, judge_file};
+use journal::{JOURNAL_LIMIT, JournalFault, judge_file};
 use journal_writer::{fill_journal, store_journal};
 
 #[test]
@@ -22,23 +23,14 @@ fn a_stored_journal_is_judged_sound(rt: HostRuntime) {
             record: 0,
         })
     );
-    let _ = fill_journal(&mut buffer, 7, 1, &[1], Some(&b"m"[..]));
+    let _ = fill_journal(&mut buffer, 7, 1, &[1], Some(b"m"));
     let _ = card.create(b"a-journal");
     assert_eq!(rt;
         store_journal(&mut card, b"a-journal", &buffer[0..1053], 1),
         Ok(())
     );
-    let sound = Sound {
-        count: 1,
-        nonce: 7,
-        size: 1,
-        name: Some(Span {
-            place: 1036,
-            length: 1,
-        }),
-    };
     assert_eq!(rt;
         judge_file(&mut card, b"a-journal", &mut buffer),
-        Ok(Some(Verdict::Sound(sound)))
+        Ok(Some(sound(1)))
     );
 }

@@ -27,7 +27,7 @@ fn tests_go_in_order(rt: HostRuntime) {
 #[test]
 fn four_databases_share_32_pages(rt: HostRuntime) {
     let mut m = Memory::new(9, [0; 4]);
-    for p in 1..9u32 {
+    for p in 1..=8 {
         for d in 0..4 {
             assert_eq!(rt; m.write(d, p, &PAGE), Ok(()));
         }
@@ -41,7 +41,7 @@ fn four_databases_share_32_pages(rt: HostRuntime) {
 #[test]
 fn eight_savepoints_stand(rt: HostRuntime) {
     let mut m = Memory::new(1, [0; 4]);
-    for k in 1..9usize {
+    for k in 1..=8 {
         assert_eq!(rt; m.push(), Ok(k));
     }
     assert_eq!(rt; m.push(), Err(Refusal::SavepointsFull));
@@ -72,9 +72,9 @@ fn a_page_is_saved_once(rt: HostRuntime) {
 #[test]
 fn savepoints_share_32_saved_pages(rt: HostRuntime) {
     let mut m = Memory::new(1, [0; 4]);
-    for k in 1..5usize {
+    for k in 1..=4 {
         assert_eq!(rt; m.push(), Ok(k));
-        for p in 1..9u32 {
+        for p in 1..=8 {
             assert_eq!(rt; m.write(0, p, &PAGE), Ok(()));
         }
     }

@@ -3,12 +3,12 @@
 #![tactic(auto)]
 
 mod board;
-mod hex;
 mod real;
 mod story;
 mod words;
 
 use anyhow::anyhow;
+use board::Cut;
 use real::{Change, print_cut};
 use std::{env, fs};
 use story::tell_set;
@@ -18,38 +18,35 @@ const USAGE: &str = "power_cuts [cut CALL KEPT OLD NEW OLD NEW]";
 
 /// The word of that number; empty if there is none.
 fn word(words: &[String], i: usize) -> &str {
-    match words.get(i) {
-        Some(word) => word.as_str(),
-        None => "",
-    }
+    words.get(i).map_or("", |word| word.as_str())
 }
 
 /// Prints what a cut in the commit of two databases left, and the recovered files.
 fn cut(rt: &HostRuntime, words: &[String]) -> anyhow::Result<()> {
-    let call = word(words, 2).parse::<u32>()?;
-    let kept = word(words, 3).parse::<u8>()?;
+    let cut = Cut {
+        call: word(words, 2).parse()?,
+        kept: word(words, 3).parse()?,
+    };
+    let [old_a, new_a, old_b, new_b] = [4, 5, 6, 7].try_map(|i| fs::read(rt, word(words, i)))?;
     let a = Change {
-        old: fs::read(rt, word(words, 4))?,
-        new: fs::read(rt, word(words, 5))?,
+        old: old_a,
+        new: new_a,
     };
     let b = Change {
-        old: fs::read(rt, word(words, 6))?,
-        new: fs::read(rt, word(words, 7))?,
+        old: old_b,
+        new: new_b,
     };
-    print_cut(rt, call, kept, &a, &b)
+    print_cut(rt, cut, &[a, b])
 }
 
 /// Does what the words ask for; without words it prints the report.
 fn act(rt: &HostRuntime) -> anyhow::Result<()> {
     let words: Vec<String> = env::args(rt)?.collect(rt.alloc())?;
-    let asked = word(&words, 1);
-    if asked == "" {
-        return tell_set(rt);
+    match word(&words, 1) {
+        "" => tell_set(rt),
+        "cut" => cut(rt, &words),
+        _ => Err(anyhow!("{}", USAGE)),
     }
-    if asked == "cut" {
-        return cut(rt, &words);
-    }
-    Err(anyhow!("{}", USAGE))
 }
 
 fn main(rt: HostRuntime) -> anyhow::Result<()> {

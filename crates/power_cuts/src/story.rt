@@ -1,50 +1,40 @@
 // A set of three databases on a delayed card, told call by call: without a cut, and with cuts in the
 // commit and in the recovery; and what is left by a cut at each call of the commit.
-use crate::board::{
-    Answers, Cut, FILES, IMAGE, cut_commit, cut_recovery, names, prepared, shown, transact,
-};
-use crate::words::{found_words, place_words, refusal_words};
+use crate::board::{Answers, Cut, FILES, IMAGE, NAMES, named, prepared, shown, transact};
+use crate::words::{Judged, Place, Refused};
 use card::Card;
 use delayed_card::DelayedCard;
 use refusal::Refusal;
 use std::alloc::Global;
+use std::fmt;
 use store::Set;
 
 /// The calls that the commit makes.
 const CALLS: u32 = 24;
 
 /// A row: what was asked, and what was answered.
-fn row(rt: &HostRuntime, asked: &str, answer: &str) -> anyhow::Result<()> {
+fn row(rt: &HostRuntime, asked: &str, answer: impl fmt::Display + Drop) -> anyhow::Result<()> {
     println!(rt; "  {asked:<26}{answer}")?;
     Ok(())
 }
 
-/// A row for a call that tells nothing.
-fn done(rt: &HostRuntime, asked: &str, refusal: Option<Refusal>) -> anyhow::Result<()> {
-    match refusal {
-        None => row(rt, asked, "done"),
-        Some(refusal) => {
-            let answer = refusal_words(rt.alloc(), refusal, &FILES)?;
-            row(rt, asked, answer.as_str())
-        }
-    }
+/// A row for a refused call.
+fn refused(rt: &HostRuntime, asked: &str, refusal: Refusal) -> anyhow::Result<()> {
+    row(rt, asked, Refused(refusal))
 }
 
 /// The rows of the transaction.
 fn tell(rt: &HostRuntime, answers: Answers) -> anyhow::Result<()> {
-    let number = answers.number;
-    println!(rt; "  {:<26}transaction {number}", "begin")?;
-    done(rt, "write page 2 of probe", answers.probe)?;
-    done(rt, "savepoint", answers.savepoint)?;
-    done(rt, "write page 1 of trace", answers.trace)?;
-    done(rt, "add page 3 to trace", answers.added)?;
-    done(rt, "release savepoint 1", answers.release)?;
-    match answers.commit {
-        Ok(left) => {
-            println!(rt; "  {:<26}done, {left} journals left", "commit")?;
-            Ok(())
+    row(rt, "begin", format_args!("transaction {}", answers.number))?;
+    for (asked, answer) in answers.calls {
+        match answer {
+            Ok(()) => row(rt, asked, "done")?,
+            Err(refusal) => refused(rt, asked, refusal)?,
         }
-        Err(refusal) => done(rt, "commit", Some(refusal)),
+    }
+    match answers.commit {
+        Ok(left) => row(rt, "commit", format_args!("done, {left} journals left")),
+        Err(refusal) => refused(rt, "commit", refusal),
     }
 }
 
@@ -52,43 +42,34 @@ fn tell(rt: &HostRuntime, answers: Answers) -> anyhow::Result<()> {
 fn recover(rt: &HostRuntime, set: &mut Set<DelayedCard<'_>>) -> anyhow::Result<()> {
     match set.recover() {
         Ok(recovery) => {
-            let probe = found_words(rt.alloc(), recovery.found[0])?;
-            let notes = found_words(rt.alloc(), recovery.found[1])?;
-            let trace = found_words(rt.alloc(), recovery.found[2])?;
-            println!(rt;
-                "  {:<26}journals: probe {probe}; notes {notes}; trace {trace}",
-                "recover"
-            )?;
-            Ok(())
+            let [probe, notes, trace, _] = recovery.found.map(Judged);
+            let found = format_args!("journals: probe {probe}; notes {notes}; trace {trace}");
+            row(rt, "recover", found)
         }
-        Err(refusal) => done(rt, "recover", Some(refusal)),
+        Err(refusal) => refused(rt, "recover", refusal),
     }
 }
 
 /// A row of what the databases show.
 fn show(rt: &HostRuntime, set: &mut Set<DelayedCard<'_>>) -> anyhow::Result<()> {
-    let pages = shown(rt.alloc(), set)?;
-    row(rt, "  the databases show", pages.as_str())
+    row(rt, "  the databases show", shown(rt.alloc(), set)?)
 }
 
 /// A row of the files on a card, with their lengths.
 fn list(rt: &HostRuntime, card: &mut DelayedCard<'_>) -> anyhow::Result<()> {
-    let mut all = String::new(rt.alloc());
+    let mut files = Vec::new(rt.alloc());
     for name in FILES {
         if let Ok(Some(length)) = card.length(name.as_bytes()) {
-            let gap = if all.len() == 0 { "" } else { ", " };
-            let file = format!(in rt.alloc(); "{gap}{name} {length}")?;
-            all.push_str(file.as_str())?;
+            files.push(format!(in rt.alloc(); "{name} {length}")?)?;
         }
     }
-    row(rt, "  the card holds", all.as_str())
+    row(rt, "  the card holds", files.join(rt.alloc(), ", ")?)
 }
 
 /// A transaction with no cut.
 fn tell_whole(rt: &HostRuntime) -> anyhow::Result<()> {
     let mut image = vec![in rt.alloc(); 0u8; IMAGE]?;
-    let card = prepared(&mut image)?;
-    let mut set = Set::new(names()?, card);
+    let mut set = Set::new(named(&NAMES)?, prepared(&mut image)?);
     recover(rt, &mut set)?;
     show(rt, &mut set)?;
     tell(rt, transact(&mut set))?;
@@ -99,15 +80,15 @@ fn tell_whole(rt: &HostRuntime) -> anyhow::Result<()> {
 fn tell_cut(rt: &HostRuntime, commit: Cut, recovery: Cut) -> anyhow::Result<()> {
     let mut image = vec![in rt.alloc(); 0u8; IMAGE]?;
     let mut card = prepared(&mut image)?;
-    cut_commit(&mut card, commit)?;
-    let mut set = Set::new(names()?, card);
+    commit.after_recovery(3).tell(&mut card)?;
+    let mut set = Set::new(named(&NAMES)?, card);
     recover(rt, &mut set)?;
     tell(rt, transact(&mut set))?;
     let mut card = set.into_card();
     card.power();
     list(rt, &mut card)?;
-    cut_recovery(&mut card, recovery)?;
-    let mut set = Set::new(names()?, card);
+    recovery.tell(&mut card)?;
+    let mut set = Set::new(named(&NAMES)?, card);
     recover(rt, &mut set)?;
     recover(rt, &mut set)?;
     show(rt, &mut set)
@@ -117,17 +98,16 @@ fn tell_cut(rt: &HostRuntime, commit: Cut, recovery: Cut) -> anyhow::Result<()> 
 fn outcome(heap: Global, cut: Cut) -> anyhow::Result<(String, String)> {
     let mut image = vec![in heap; 0u8; IMAGE]?;
     let mut card = prepared(&mut image)?;
-    cut_commit(&mut card, cut)?;
-    let mut set = Set::new(names()?, card);
+    cut.after_recovery(3).tell(&mut card)?;
+    let mut set = Set::new(named(&NAMES)?, card);
     let _ = set.recover();
     let answer = match transact(&mut set).commit {
         Ok(left) => format!(in heap; "done, {left} journals left")?,
-        Err(Refusal::Card(fault)) => place_words(heap, fault, &FILES)?,
-        Err(refusal) => refusal_words(heap, refusal, &FILES)?,
+        Err(Refusal::Card(fault)) => Place(fault).to_string(heap)?,
+        Err(refusal) => Refused(refusal).to_string(heap)?,
     };
     let _ = set.recover();
-    let pages = shown(heap, &mut set)?;
-    Ok((answer, pages))
+    Ok((answer, shown(heap, &mut set)?))
 }
 
 /// A row for each call of the commit, with what a recovery makes of a cut there.
@@ -136,20 +116,13 @@ fn tell_each(rt: &HostRuntime) -> anyhow::Result<()> {
         "{:>4}  {:<26}{:<18}{:<18}{}",
         "call", "cut in", "kept synced", "kept all", "kept a mix"
     )?;
-    for i in 0..CALLS {
-        let call = i.saturating_add(1);
-        let (answer, synced) = outcome(rt.alloc(), Cut { call, kept: 0 })?;
-        let (_, all) = outcome(rt.alloc(), Cut { call, kept: 1 })?;
-        let (_, mix) = outcome(rt.alloc(), Cut { call, kept: 2 })?;
+    for call in 1..=CALLS {
+        let [(answer, synced), (_, all), (_, mix)] = [0, 1, 2].try_map(|kept| outcome(
+            rt.alloc(),
+            Cut { call, kept },
+        ))?;
         println!(rt; "{call:>4}  {answer:<26}{synced:<18}{all:<18}{mix}")?;
     }
-    Ok(())
-}
-
-/// A blank line and a heading.
-fn head(rt: &HostRuntime, text: &str) -> anyhow::Result<()> {
-    println!(rt; "")?;
-    println!(rt; "{text}")?;
     Ok(())
 }
 
@@ -158,22 +131,16 @@ pub fn tell_set(rt: &HostRuntime) -> anyhow::Result<()> {
     println!(rt;
         "A set on a delayed card: probe, notes and trace, with a letter for each page, o old, N new"
     )?;
-    head(rt, "No cut")?;
+    println!(rt; "\nNo cut")?;
     tell_whole(rt)?;
-    head(
-        rt,
-        "Power cut where the commit writes trace, and again in the recovery: all old",
-    )?;
+    println!(rt; "\nPower cut where the commit writes trace, and again in the recovery: all old")?;
     tell_cut(rt, Cut { call: 20, kept: 2 }, Cut { call: 22, kept: 2 })?;
-    head(
-        rt,
-        "Power cut where the commit deletes the super-journal, and again in the recovery: all new",
+    println!(rt;
+        "\nPower cut where the commit deletes the super-journal, and again in the recovery: all new"
     )?;
     tell_cut(rt, Cut { call: 22, kept: 1 }, Cut { call: 12, kept: 0 })?;
-    head(
-        rt,
-        "Power cut at each call of the commit: what probe, notes and trace show after a recovery",
+    println!(rt;
+        "\nPower cut at each call of the commit: what probe, notes and trace show after a recovery\n"
     )?;
-    println!(rt; "")?;
     tell_each(rt)
 }

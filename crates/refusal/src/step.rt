@@ -1,4 +1,5 @@
 // The steps of a commit and of a recovery.
+use std::fmt;
 
 /// A step: C1 to C5 of a commit, R1 to R4 of a recovery.
 #[derive(Clone, Copy, PartialEq, Eq, Debug)]
@@ -21,4 +22,21 @@ pub enum Step {
     R3,
     /// The lengths of the databases are looked at.
     R4,
+}
+
+/// The step by its name.
+impl fmt::Display for Step {
+    fn fmt<W: fmt::Write>(&self, f: &mut fmt::Formatter<W>) -> fmt::Result {
+        f.write_str(match self {
+            Step::C1 => "C1",
+            Step::C2 => "C2",
+            Step::C3 => "C3",
+            Step::C4 => "C4",
+            Step::C5 => "C5",
+            Step::R1 => "R1",
+            Step::R2 => "R2",
+            Step::R3 => "R3",
+            Step::R4 => "R4",
+        })
+    }
 }

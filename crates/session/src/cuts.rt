@@ -1,6 +1,6 @@
 // A short task on a delayed card, cut at each of its calls in turn.
 use crate::report::{holdings, refusal};
-use anyhow::anyhow;
+use anyhow::{Context, bail};
 use card::{Card, CardFault};
 use cards::{DelayedCard, TroubleLayer};
 use std::alloc::Global;
@@ -15,6 +15,9 @@ const CALLS: [&str; 7] = [
     "create trace",
     "delete notes",
 ];
+
+/// What the card keeps of its files, by the card's numbers: what was synced, all, or a mix.
+const KEPT: [u8; 3] = [0, 1, 2];
 
 /// Two halves of 16 slots of 64 bytes.
 const IMAGE: usize = 2048;
@@ -38,9 +41,7 @@ fn task<C: Card>(card: &mut C) -> Result<(), CardFault> {
 fn remained(heap: Global, call: u32, kept: u8) -> anyhow::Result<String> {
     let mut image = [0u8; IMAGE];
     let mut card = DelayedCard::new(&mut image, CARD);
-    if card.lose_power_at(call, kept).is_err() {
-        return Err(anyhow!("no such cut"));
-    }
+    card.lose_power_at(call, kept).ok().context("no such cut")?;
     let _ = task(&mut card);
     card.power();
     holdings(heap, &mut card)
@@ -51,30 +52,24 @@ fn troubled(heap: Global, call: u32) -> anyhow::Result<(String, String)> {
     let mut image = [0u8; IMAGE];
     let card = DelayedCard::new(&mut image, CARD);
     let Ok(mut layer) = TroubleLayer::new(card, &[call], LAYER) else {
-        return Err(anyhow!("too many troubles"));
+        bail!("too many troubles");
     };
     let answer = match task(&mut layer) {
         Ok(()) => String::from_str(heap, "done")?,
         Err(fault) => refusal(heap, fault)?,
     };
-    let holds = holdings(heap, &mut layer)?;
-    Ok((answer, holds))
+    Ok((answer, holdings(heap, &mut layer)?))
 }
 
 /// A row for each call at which power is cut, with what remained by what the card kept.
 pub fn cut_each(rt: &HostRuntime) -> anyhow::Result<()> {
-    println!(rt; "")?;
-    println!(rt; "A delayed card, with the power cut at each call in turn: what remained")?;
-    println!(rt; "")?;
+    println!(rt; "\nA delayed card, with the power cut at each call in turn: what remained\n")?;
     println!(rt;
         "{:>4}  {:<32}{:<32}{:<26}{}",
         "call", "cut in", "kept what was synced", "kept all", "kept a mix"
     )?;
-    for (i, asked) in CALLS.iter().enumerate() {
-        let call = (i as u32).saturating_add(1);
-        let synced = remained(rt.alloc(), call, 0)?;
-        let all = remained(rt.alloc(), call, 1)?;
-        let mix = remained(rt.alloc(), call, 2)?;
+    for (call, asked) in (1u32..).zip(CALLS) {
+        let [synced, all, mix] = KEPT.try_map(|kept| remained(rt.alloc(), call, kept))?;
         println!(rt; "{call:>4}  {asked:<32}{synced:<32}{all:<26}{mix}")?;
     }
     Ok(())
@@ -82,15 +77,12 @@ pub fn cut_each(rt: &HostRuntime) -> anyhow::Result<()> {
 
 /// A row for each call that a trouble layer refuses.
 pub fn trouble_each(rt: &HostRuntime) -> anyhow::Result<()> {
-    println!(rt; "")?;
-    println!(rt; "A trouble layer over a delayed card, with each call refused in turn")?;
-    println!(rt; "")?;
+    println!(rt; "\nA trouble layer over a delayed card, with each call refused in turn\n")?;
     println!(rt;
         "{:>4}  {:<32}{:<34}{}",
         "call", "refused", "answered", "the card then holds"
     )?;
-    for (i, asked) in CALLS.iter().enumerate() {
-        let call = (i as u32).saturating_add(1);
+    for (call, asked) in (1u32..).zip(CALLS) {
         let (answer, holds) = troubled(rt.alloc(), call)?;
         println!(rt; "{call:>4}  {asked:<32}{answer:<34}{holds}")?;
     }

@@ -25,36 +25,30 @@ const IMAGE: usize = 1024;
 const ORIGIN: u8 = 7;
 
 /// Keeps notes and a trace on the card, with one write that the card must refuse.
-fn keep_notes<C: Card>(report: &mut Report, card: &mut C) -> anyhow::Result<()> {
-    let answer = card.length(b"notes");
-    report.told(card, "length of notes", answer)?;
-    let answer = card.create(b"notes");
-    report.done(card, "create notes", answer)?;
+fn keep_notes<C: Card>(report: &mut Report<'_>, card: &mut C) -> anyhow::Result<()> {
+    report.row("length of notes", card.length(b"notes"), card)?;
+    report.row("create notes", card.create(b"notes"), card)?;
     let answer = card.write(b"notes", 0, b"probe ready");
-    report.done(card, "write 11 bytes into notes at 0", answer)?;
-    let answer = card.sync(b"notes");
-    report.done(card, "sync notes", answer)?;
+    report.row("write 11 bytes into notes at 0", answer, card)?;
+    report.row("sync notes", card.sync(b"notes"), card)?;
     let mut text = [0u8; 5];
-    let answer = card.read(b"notes", 6, &mut text);
-    report.read(card, "read 5 bytes of notes at 6", answer, &text)?;
+    let answer = card.read(b"notes", 6, &mut text).map(|()| text);
+    report.row("read 5 bytes of notes at 6", answer, card)?;
     let answer = card.write(b"notes", 20, b"late");
-    report.done(card, "write 4 bytes into notes at 20", answer)
+    report.row("write 4 bytes into notes at 20", answer, card)
 }
 
 /// Cuts and fills the notes, and replaces them by a trace.
-fn keep_trace<C: Card>(report: &mut Report, card: &mut C) -> anyhow::Result<()> {
+fn keep_trace<C: Card>(report: &mut Report<'_>, card: &mut C) -> anyhow::Result<()> {
     let answer = card.set_length(b"notes", 5);
-    report.done(card, "set the length of notes to 5", answer)?;
+    report.row("set the length of notes to 5", answer, card)?;
     let answer = card.set_length(b"notes", 8);
-    report.done(card, "set the length of notes to 8", answer)?;
-    let answer = card.create(b"trace");
-    report.done(card, "create trace", answer)?;
+    report.row("set the length of notes to 8", answer, card)?;
+    report.row("create trace", card.create(b"trace"), card)?;
     let answer = card.write(b"trace", 0, b"break at main");
-    report.done(card, "write 13 bytes into trace at 0", answer)?;
-    let answer = card.sync(b"trace");
-    report.done(card, "sync trace", answer)?;
-    let answer = card.delete(b"notes");
-    report.done(card, "delete notes", answer)
+    report.row("write 13 bytes into trace at 0", answer, card)?;
+    report.row("sync trace", card.sync(b"trace"), card)?;
+    report.row("delete notes", card.delete(b"notes"), card)
 }
 
 fn run(rt: &HostRuntime) -> anyhow::Result<()> {
@@ -73,21 +67,17 @@ fn run(rt: &HostRuntime) -> anyhow::Result<()> {
 /// Does what the words ask for: nothing is the report, and `journal DATABASE [SUPER]` prints a journal
 /// of the file's pages as hex.
 fn act(rt: &HostRuntime) -> anyhow::Result<()> {
-    let mut words = env::args(rt)?;
-    let _ = words.next();
+    let mut words = env::args(rt)?.skip(1);
     let Some(word) = words.next() else {
         return run(rt);
     };
-    let Some(path) = words.next() else {
-        return Err(anyhow!("journal DATABASE [SUPER]"));
-    };
-    if word.as_str() != "journal" {
-        return Err(anyhow!("journal DATABASE [SUPER]"));
-    }
-    let pages = fs::read(rt, path.as_str())?;
     match words.next() {
-        Some(name) => print_journal(rt, &pages, Some(name.as_bytes())),
-        None => print_journal(rt, &pages, None),
+        Some(path) if word.as_str() == "journal" => {
+            let pages = fs::read(rt, path.as_str())?;
+            let name = words.next();
+            print_journal(rt, &pages, name.as_ref().map(|name| name.as_bytes()))
+        }
+        _ => Err(anyhow!("journal DATABASE [SUPER]")),
     }
 }
 

@@ -1,11 +1,17 @@
 // The databases of the tests: their files, the transaction that changes them, and what they show.
 use card::{Card, CardFault};
+use direct_card::DirectCard;
 use journal::PAGE;
 use names::{ListRefusal, Names, checked};
-use refusal::Refusal;
+use refusal::{Refusal, SetFault};
+use std::array;
 use std::process::Abort;
 use std::test::Fail;
 use store::Set;
+use trouble_layer::TroubleLayer;
+
+/// 16 slots, with 2,048 bytes for each file; a delayed card has two halves of that.
+pub const IMAGE: usize = 33360;
 
 /// What the databases hold: two pages each; or, after the transaction, the second one changed and a
 /// third one more.
@@ -15,11 +21,13 @@ pub enum Version {
     New,
 }
 
-/// How many pages a database has.
-fn size(version: Version) -> u8 {
-    match version {
-        Version::Old => 2,
-        Version::New => 3,
+impl Version {
+    /// How many pages a database has.
+    fn size(self) -> u8 {
+        match self {
+            Version::Old => 2,
+            Version::New => 3,
+        }
     }
 }
 
@@ -27,21 +35,13 @@ fn size(version: Version) -> u8 {
 pub fn page(database: u8, number: u8, version: Version) -> [u8; PAGE] {
     let changed = version == Version::New && number != 1;
     let mark = database.wrapping_mul(16) ^ number.wrapping_mul(2) ^ u8::from(changed);
-    let mut bytes = [0u8; PAGE];
-    for i in 0..PAGE {
-        bytes[i] = mark ^ (i & 0xff) as u8;
-    }
-    bytes
+    array::from_fn(|i| mark ^ (i & 0xff) as u8)
 }
 
 /// The names of the first databases: a, b, c, d.
 pub fn names(count: u8) -> Result<Names, ListRefusal> {
-    match count {
-        1 => checked(&[b"a"]),
-        2 => checked(&[b"a", b"b"]),
-        3 => checked(&[b"a", b"b", b"c"]),
-        _ => checked(&[b"a", b"b", b"c", b"d"]),
-    }
+    let all: [&[u8]; 4] = [b"a", b"b", b"c", b"d"];
+    checked(&all[0..(count as usize).min(4)])
 }
 
 /// Makes the file of a database, with its old pages.
@@ -61,6 +61,25 @@ pub fn make_databases<C: Card>(card: &mut C, count: u8) -> Result<(), CardFault>
     Ok(())
 }
 
+/// A direct card with the files of the first databases.
+pub fn direct(image: &mut [u8; IMAGE], count: u8) -> Result<DirectCard<'_>, CardFault> {
+    let mut card = DirectCard::new(image, 3);
+    make_databases(&mut card, count)?;
+    Ok(card)
+}
+
+/// A layer over a card that refuses the calls of those numbers, at most eight.
+pub fn layer<'a>(
+    rt: &impl Abort,
+    card: DirectCard<'a>,
+    calls: &[u32],
+) -> TroubleLayer<DirectCard<'a>> {
+    match TroubleLayer::new(card, calls, 4) {
+        Ok(layer) => layer,
+        Err(_) => panic!(rt; "over eight numbers"),
+    }
+}
+
 /// Commits the transaction that takes each database from its old pages to its new ones.
 pub fn commit_new<C: Card>(set: &mut Set<C>, count: u8) -> Result<usize, Refusal> {
     let t = set.begin(7);
@@ -73,44 +92,50 @@ pub fn commit_new<C: Card>(set: &mut Set<C>, count: u8) -> Result<usize, Refusal
     set.commit(t)
 }
 
-/// Checks that a database has the size and the pages of a version.
-fn check_database<C: Card>(
+/// The fault that stopped a commit, none if it came through. No other refusal stops it.
+pub fn stopped_by(answer: Result<usize, Refusal>) -> Result<Option<SetFault>, Fail> {
+    match answer {
+        Ok(_) => Ok(None),
+        Err(Refusal::Card(fault)) => Ok(Some(fault)),
+        Err(refusal) => Err(Fail::from(refusal)),
+    }
+}
+
+/// Checks that a page of a database is that of a version.
+pub fn check_page<C: Card>(
     rt: &impl Abort,
     set: &mut Set<C>,
     database: u8,
+    number: u8,
     version: Version,
-) -> Result<(), Fail> {
-    let size = size(version);
+) {
+    let mut bytes = [0u8; PAGE];
+    assert_eq!(rt;
+        set.read(database as usize, number as u32, &mut bytes),
+        Ok(()),
+        "page {number} of database {database}, to show {version:?}"
+    );
+    assert!(rt;
+        bytes == page(database, number, version),
+        "page {number} of database {database}, to show {version:?}"
+    );
+}
+
+/// Checks that a database has the size and the pages of a version.
+fn check_database<C: Card>(rt: &impl Abort, set: &mut Set<C>, database: u8, version: Version) {
     assert_eq!(rt;
         set.size(database as usize),
-        Ok(size as u32),
+        Ok(version.size() as u32),
         "database {database}, to show {version:?}"
     );
-    for before in 0..size {
-        let number = before.saturating_add(1);
-        let mut bytes = [0u8; PAGE];
-        assert_eq!(rt;
-            set.read(database as usize, number as u32, &mut bytes),
-            Ok(()),
-            "page {number} of database {database}, to show {version:?}"
-        );
-        assert!(rt;
-            bytes == page(database, number, version),
-            "page {number} of database {database}, to show {version:?}"
-        );
+    for number in 1..=version.size() {
+        check_page(rt, set, database, number, version);
     }
-    Ok(())
 }
 
 /// Checks that all databases show one version.
-pub fn check_all<C: Card>(
-    rt: &impl Abort,
-    set: &mut Set<C>,
-    count: u8,
-    version: Version,
-) -> Result<(), Fail> {
+pub fn check_all<C: Card>(rt: &impl Abort, set: &mut Set<C>, count: u8, version: Version) {
     for database in 0..count {
-        check_database(rt, set, database, version)?;
+        check_database(rt, set, database, version);
     }
-    Ok(())
 }

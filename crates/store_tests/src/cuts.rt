@@ -2,7 +2,8 @@
 //
 // A commit of 1, 2 and 4 databases has 11, 26 and 48 calls: each is cut three times, by what the card
 // keeps. The recovery after each of these cuts is cut at each of its calls, three times too.
-use crate::contents::{Version, check_all, commit_new, make_databases, names};
+use crate::contents::{IMAGE, Version, check_all, commit_new, make_databases, names, stopped_by};
+use crate::trials::calls_of;
 use card::Card;
 use delayed_card::DelayedCard;
 use refusal::{Refusal, Step};
@@ -10,59 +11,48 @@ use std::process::Abort;
 use std::test::Fail;
 use store::Set;
 
-/// Two halves of 16 slots, with 2,048 bytes for each file.
-const IMAGE: usize = 66720;
-
-/// No commit and no recovery of the tests has so many calls.
-const CALLS: u32 = 200;
-
 /// A power failure: at which call from now, and what the card keeps.
 #[derive(Clone, Copy)]
-struct Cut {
-    call: u32,
-    kept: u8,
+pub struct Cut {
+    pub call: u32,
+    pub kept: u8,
+}
+
+/// A delayed card with the files of the first databases, that is to lose power.
+pub fn delayed(image: &mut [u8], count: u8, cut: Cut) -> Result<DelayedCard<'_>, Fail> {
+    let mut card = DelayedCard::new(image, 3);
+    make_databases(&mut card, count)?;
+    card.lose_power_at(cut.call, cut.kept)?;
+    Ok(card)
 }
 
 /// How many calls a recovery makes where no journal is.
 pub fn quiet_calls(count: u8) -> Result<u32, Fail> {
-    for done in 0..CALLS {
-        let mut image = [0u8; IMAGE];
-        let mut card = DelayedCard::new(&mut image, 3);
-        make_databases(&mut card, count)?;
-        card.lose_power_at(done.saturating_add(1), 0)?;
-        let mut set = Set::new(names(count)?, card);
-        if set.recover().is_ok() {
-            return Ok(done);
-        }
-    }
-    Err(Fail::new("no recovery came through"))
+    calls_of(|call| {
+        let mut image = [0u8; 2 * IMAGE];
+        let card = delayed(&mut image, count, Cut { call, kept: 0 })?;
+        Ok(Set::new(names(count)?, card).recover().is_ok())
+    })
 }
 
 /// What all databases must show after a commit with that answer. The deletion that makes the commit
 /// count is done by a card that keeps what it held when power failed, or a mix.
 fn shown_after(answer: Result<usize, Refusal>, kept: u8) -> Result<Version, Fail> {
-    let fault = match answer {
-        Ok(_) => return Ok(Version::New),
-        Err(Refusal::Card(fault)) => fault,
-        Err(refusal) => return Err(Fail::new(format_args!("{refusal:?}"))),
+    let Some(fault) = stopped_by(answer)? else {
+        return Ok(Version::New);
     };
     match fault.step {
         Some(Step::C1 | Step::C2 | Step::C3) => Ok(Version::Old),
-        Some(Step::C4) => Ok(if kept == 0 {
-            Version::Old
-        } else {
-            Version::New
-        }),
+        Some(Step::C4) if kept == 0 => Ok(Version::Old),
+        Some(Step::C4) => Ok(Version::New),
         _ => Err(Fail::new("a commit tells one of its steps")),
     }
 }
 
 /// Cuts a commit, recovers, and checks what is shown. Tells whether the commit came through whole.
 fn check_commit(rt: &impl Abort, count: u8, cut: Cut) -> Result<bool, Fail> {
-    let mut image = [0u8; IMAGE];
-    let mut card = DelayedCard::new(&mut image, 3);
-    make_databases(&mut card, count)?;
-    card.lose_power_at(cut.call, cut.kept)?;
+    let mut image = [0u8; 2 * IMAGE];
+    let card = delayed(&mut image, count, cut)?;
     let mut set = Set::new(names(count)?, card);
     let _ = set.recover()?;
     let answer = commit_new(&mut set, count);
@@ -75,53 +65,43 @@ fn check_commit(rt: &impl Abort, count: u8, cut: Cut) -> Result<bool, Fail> {
     assert!(rt; !set.is_ready());
     let _ = set.recover()?;
     assert!(rt; set.is_ready());
-    check_all(rt, &mut set, count, shown_after(answer, cut.kept)?)?;
+    check_all(rt, &mut set, count, shown_after(answer, cut.kept)?);
     Ok(whole)
 }
 
-/// Cuts a commit at each of its calls, and tells how many there are.
-fn commit_calls(rt: &impl Abort, count: u8, kept: u8) -> Result<u32, Fail> {
+/// Cuts a commit at each of its calls, whatever the card keeps, and checks how many there are.
+fn check_commits(rt: &impl Abort, count: u8, calls: u32) -> Result<(), Fail> {
     let quiet = quiet_calls(count)?;
-    for done in 0..CALLS {
-        let call = quiet.saturating_add(done).saturating_add(1);
-        if check_commit(rt, count, Cut { call, kept })? {
-            return Ok(done);
-        }
+    for kept in 0..3 {
+        let told = calls_of(|call| {
+            let call = quiet.saturating_add(call);
+            check_commit(rt, count, Cut { call, kept })
+        })?;
+        assert_eq!(rt; told, calls);
     }
-    Err(Fail::new("no commit came through"))
+    Ok(())
 }
 
 #[test]
 fn each_cut_of_a_commit_of_one_database(rt: HostRuntime) -> Result<(), Fail> {
-    for kept in 0..3u8 {
-        assert_eq!(rt; commit_calls(&rt, 1, kept)?, 11);
-    }
-    Ok(())
+    check_commits(&rt, 1, 11)
 }
 
 #[test]
 fn each_cut_of_a_commit_of_two_databases(rt: HostRuntime) -> Result<(), Fail> {
-    for kept in 0..3u8 {
-        assert_eq!(rt; commit_calls(&rt, 2, kept)?, 26);
-    }
-    Ok(())
+    check_commits(&rt, 2, 26)
 }
 
 #[test]
 fn each_cut_of_a_commit_of_four_databases(rt: HostRuntime) -> Result<(), Fail> {
-    for kept in 0..3u8 {
-        assert_eq!(rt; commit_calls(&rt, 4, kept)?, 48);
-    }
-    Ok(())
+    check_commits(&rt, 4, 48)
 }
 
 /// Cuts a commit, then the recovery after it, recovers, and checks what is shown. Tells whether the
 /// recovery came through whole.
 fn check_recovery(rt: &impl Abort, count: u8, first: Cut, second: Cut) -> Result<bool, Fail> {
-    let mut image = [0u8; IMAGE];
-    let mut card = DelayedCard::new(&mut image, 3);
-    make_databases(&mut card, count)?;
-    card.lose_power_at(first.call, first.kept)?;
+    let mut image = [0u8; 2 * IMAGE];
+    let card = delayed(&mut image, count, first)?;
     let mut set = Set::new(names(count)?, card);
     let _ = set.recover()?;
     let answer = commit_new(&mut set, count);
@@ -133,19 +113,19 @@ fn check_recovery(rt: &impl Abort, count: u8, first: Cut, second: Cut) -> Result
     card.lose_power_at(u32::MAX, 0)?;
     let mut set = Set::new(names(count)?, card);
     let _ = set.recover()?;
-    check_all(rt, &mut set, count, shown_after(answer, first.kept)?)?;
+    check_all(rt, &mut set, count, shown_after(answer, first.kept)?);
     Ok(whole)
 }
 
-/// Cuts the recovery after a cut commit at each of its calls, and tells how many there are.
-fn recovery_calls(rt: &impl Abort, count: u8, first: Cut, kept: u8) -> Result<u32, Fail> {
-    for done in 0..CALLS {
-        let call = done.saturating_add(1);
-        if check_recovery(rt, count, first, Cut { call, kept })? {
-            return Ok(done);
-        }
+/// Cuts the recovery after a cut commit at each of its calls, whatever the card keeps, and tells how
+/// many recoveries were cut.
+fn recovery_cuts(rt: &impl Abort, count: u8, first: Cut) -> Result<u32, Fail> {
+    let mut cuts = 0u32;
+    for kept in 0..3 {
+        let calls = calls_of(|call| check_recovery(rt, count, first, Cut { call, kept }))?;
+        cuts = cuts.saturating_add(calls);
     }
-    Err(Fail::new("no recovery came through"))
+    Ok(cuts)
 }
 
 /// Cuts a commit at each of its calls, and the recovery after each cut at each of its calls; what the
@@ -153,14 +133,10 @@ fn recovery_calls(rt: &impl Abort, count: u8, first: Cut, kept: u8) -> Result<u3
 fn cut_recoveries(rt: &impl Abort, count: u8, calls: u32) -> Result<u32, Fail> {
     let quiet = quiet_calls(count)?;
     let mut cuts = 0u32;
-    for done in 0..calls {
-        let call = quiet.saturating_add(done).saturating_add(1);
-        for kept in 0..9u8 {
-            let first = Cut {
-                call,
-                kept: kept / 3,
-            };
-            cuts = cuts.saturating_add(recovery_calls(rt, count, first, kept % 3)?);
+    for call in 1..=calls {
+        let call = quiet.saturating_add(call);
+        for kept in 0..3 {
+            cuts = cuts.saturating_add(recovery_cuts(rt, count, Cut { call, kept })?);
         }
     }
     Ok(cuts)

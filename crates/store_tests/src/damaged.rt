@@ -1,15 +1,11 @@
 // Journals of every kind beside the databases: damaged, spent and hot.
-use crate::contents::{Version, check_all, names, page};
-use crate::scenes::{Beside, IMAGE, check_no_journals, check_refused, finding, make_scene};
-use card::Card;
-use direct_card::DirectCard;
-use journal::PAGE;
+use crate::contents::{Version, page};
+use crate::scenes::{Beside, check_found, check_refused};
 use journal_writer::{put_count, put_header, put_name, put_record};
 use recovery::Found;
 use refusal::Refusal;
 use std::process::Abort;
 use std::test::Fail;
-use store::Set;
 
 /// A header and two records.
 pub const PLAIN: usize = 1552;
@@ -29,109 +25,68 @@ pub fn journal(database: u8, name: &[u8]) -> Result<[u8; LINKED], Fail> {
     Ok(bytes)
 }
 
-/// A journal with bits of one byte flipped, cut to a length, and the record by which it is told.
-#[derive(Clone, Copy)]
-struct Harm {
-    place: usize,
-    bits: u8,
-    length: usize,
-    record: u32,
-}
+/// Harmed journals, each with the place of a byte, the bits of it that are flipped, the length that the
+/// journal is cut to, and the record by which it is told.
+const HARMS: [(usize, u8, usize, u32); 24] = [
+    // a count of 3, of 1, and of 34
+    (11, 1, PLAIN, 0),
+    (11, 3, PLAIN, 0),
+    (11, 32, PLAIN, 0),
+    // a size of 0, and of 4,098
+    (19, 2, PLAIN, 0),
+    (18, 16, PLAIN, 0),
+    // the sector, the page, the first and the last byte of the padding
+    (22, 1, PLAIN, 0),
+    (26, 1, PLAIN, 0),
+    (28, 1, PLAIN, 0),
+    (511, 128, PLAIN, 0),
+    // the first page is 2; the second is 1; the second is 3, past the size
+    (515, 3, PLAIN, 1),
+    (1035, 3, PLAIN, 2),
+    (1035, 1, PLAIN, 2),
+    // another checksum, and another byte that it counts, in either record
+    (1031, 1, PLAIN, 1),
+    (828, 1, PLAIN, 1),
+    (1551, 1, PLAIN, 2),
+    (1148, 1, PLAIN, 2),
+    // a length of one byte less, of one more, and of a super-journal record without its name
+    (1551, 0, PLAIN - 1, 0),
+    (1551, 0, PLAIN + 1, 0),
+    (1551, 0, PLAIN + 20, 0),
+    // the super-journal record: its number, the name, its length, its sum, the magic
+    (1555, 1, LINKED, 0),
+    (1556, 1, LINKED, 0),
+    (1563, 1, LINKED, 0),
+    (1567, 1, LINKED, 0),
+    (1575, 1, LINKED, 0),
+];
 
-fn row(place: usize, bits: u8, length: usize, record: u32) -> Harm {
-    Harm {
-        place,
-        bits,
-        length,
-        record,
-    }
-}
-
-/// The table.
-fn harms() -> [Harm; 24] {
-    [
-        // a count of 3, of 1, and of 34
-        row(11, 1, PLAIN, 0),
-        row(11, 3, PLAIN, 0),
-        row(11, 32, PLAIN, 0),
-        // a size of 0, and of 4,098
-        row(19, 2, PLAIN, 0),
-        row(18, 16, PLAIN, 0),
-        // the sector, the page, the first and the last byte of the padding
-        row(22, 1, PLAIN, 0),
-        row(26, 1, PLAIN, 0),
-        row(28, 1, PLAIN, 0),
-        row(511, 128, PLAIN, 0),
-        // the first page is 2; the second is 1; the second is 3, past the size
-        row(515, 3, PLAIN, 1),
-        row(1035, 3, PLAIN, 2),
-        row(1035, 1, PLAIN, 2),
-        // another checksum, and another byte that it counts, in either record
-        row(1031, 1, PLAIN, 1),
-        row(828, 1, PLAIN, 1),
-        row(1551, 1, PLAIN, 2),
-        row(1148, 1, PLAIN, 2),
-        // a length of one byte less, of one more, and of a super-journal record without its name
-        row(1551, 0, PLAIN - 1, 0),
-        row(1551, 0, PLAIN + 1, 0),
-        row(1551, 0, PLAIN + 20, 0),
-        // the super-journal record: its number, the name, its length, its sum, the magic
-        row(1555, 1, LINKED, 0),
-        row(1556, 1, LINKED, 0),
-        row(1563, 1, LINKED, 0),
-        row(1567, 1, LINKED, 0),
-        row(1575, 1, LINKED, 0),
-    ]
-}
-
-/// Checks that a journal of those bytes is damaged at a record, for either database.
+/// Checks that a journal of those bytes is damaged at a record, for either database; the first one of
+/// both is told.
 fn check_damaged(rt: &impl Abort, bytes: &[u8], record: u32) -> Result<(), Fail> {
-    let first = Beside {
-        name: b"a-journal",
-        bytes,
-    };
-    let second = Beside {
-        name: b"b-journal",
-        bytes,
-    };
+    let first = Beside::new(b"a-journal", bytes);
+    let second = Beside::new(b"b-journal", bytes);
     check_refused(rt, &[first], Refusal::Damaged { file: 4, record })?;
     check_refused(rt, &[second], Refusal::Damaged { file: 5, record })?;
     check_refused(rt, &[second, first], Refusal::Damaged { file: 4, record })
 }
 
-/// Checks that a harmed journal is told as damaged.
-fn check_harm(rt: &impl Abort, harm: Harm) -> Result<(), Fail> {
-    let mut bytes = journal(1, b"a-mj")?;
-    if let Some(byte) = bytes.get_mut(harm.place) {
-        *byte ^= harm.bits;
-    }
-    check_damaged(rt, &bytes[0..harm.length.min(LINKED)], harm.record)
-}
-
 #[test]
 fn each_damaged_journal_is_told(rt: HostRuntime) -> Result<(), Fail> {
-    for harm in harms() {
-        check_harm(&rt, harm)?;
+    let sound = journal(1, b"a-mj")?;
+    for (place, bits, length, record) in HARMS {
+        let mut bytes = sound;
+        if let Some(byte) = bytes.get_mut(place) {
+            *byte ^= bits;
+        }
+        check_damaged(&rt, &bytes[0..length.min(LINKED)], record)?;
     }
     Ok(())
 }
 
-/// What a recovery finds of a journal of b; the databases are as they were, and no journal is left.
+/// Checks that a journal of b is found spent.
 fn check_spent(rt: &impl Abort, bytes: &[u8]) -> Result<(), Fail> {
-    let mut image = [0u8; IMAGE];
-    let mut card = DirectCard::new(&mut image, 3);
-    let file = Beside {
-        name: b"b-journal",
-        bytes,
-    };
-    make_scene(&mut card, &[file])?;
-    let mut set = Set::new(names(2)?, card);
-    let recovery = set.recover()?;
-    assert_eq!(rt; recovery.found, finding(Found::None, Found::Spent));
-    assert_eq!(rt; recovery.sizes, [2, 2, 1, 1]);
-    check_all(rt, &mut set, 2, Version::Old)?;
-    let mut card = set.into_card();
-    check_no_journals(rt, &mut card)
+    check_found(rt, &[Beside::new(b"b-journal", bytes)], Found::Spent)
 }
 
 #[test]
@@ -152,24 +107,7 @@ fn each_spent_journal_is_deleted(rt: HostRuntime) -> Result<(), Fail> {
 
 #[test]
 fn a_hot_journal_is_played_back(rt: HostRuntime) -> Result<(), Fail> {
-    let mut image = [0u8; IMAGE];
-    let mut card = DirectCard::new(&mut image, 3);
     let bytes = journal(1, b"a-mj")?;
-    let file = Beside {
-        name: b"b-journal",
-        bytes: &bytes[0..PLAIN],
-    };
-    make_scene(&mut card, &[file])?;
-    let mut set = Set::new(names(2)?, card);
-    let recovery = set.recover()?;
-    assert_eq!(rt;
-        recovery.found,
-        finding(Found::None, Found::Hot { records: 2 })
-    );
-    let mut read = [0u8; PAGE];
-    assert_eq!(rt; set.read(1, 2, &mut read), Ok(()));
-    assert!(rt; read == page(1, 2, Version::New));
-    check_all(&rt, &mut set, 1, Version::Old)?;
-    let mut card = set.into_card();
-    check_no_journals(&rt, &mut card)
+    let hot = Beside::new(b"b-journal", &bytes[0..PLAIN]);
+    check_found(&rt, &[hot], Found::Hot { records: 2 })
 }

@@ -1,18 +1,14 @@
 // A device fault at each call of a commit, and one more at each call after it.
-use crate::contents::{Version, check_all, commit_new, make_databases, names};
+use crate::contents::{IMAGE, Version, check_all, commit_new, direct, layer, names, stopped_by};
 use crate::cuts::quiet_calls;
+use crate::trials::calls_of;
 use card::Cause;
-use direct_card::DirectCard;
 use refusal::Refusal;
 use std::process::Abort;
 use std::test::Fail;
 use store::Set;
-use trouble_layer::TroubleLayer;
 
-/// 16 slots, with 2,048 bytes for each file.
-const IMAGE: usize = 33360;
-
-/// No commit of the tests with the recovery after it has so many calls.
+/// No call of a commit has so many calls after it, with those of the recovery after the commit.
 const CALLS: u32 = 100;
 
 /// Whether a commit was done with no journal left, and whether the recovery after it was good.
@@ -24,25 +20,18 @@ struct Outcome {
 
 /// What all databases must show after a commit with that answer: a refused deletion is not done.
 fn shown_after(rt: &impl Abort, answer: Result<usize, Refusal>) -> Result<Version, Fail> {
-    match answer {
-        Ok(_) => Ok(Version::New),
-        Err(Refusal::Card(fault)) => {
-            assert_eq!(rt; fault.journal.card.cause, Cause::Device);
-            Ok(Version::Old)
-        }
-        Err(refusal) => Err(Fail::new(format_args!("{refusal:?}"))),
-    }
+    let Some(fault) = stopped_by(answer)? else {
+        return Ok(Version::New);
+    };
+    assert_eq!(rt; fault.journal.card.cause, Cause::Device);
+    Ok(Version::Old)
 }
 
-/// Commits and recovers with two calls refused, 0 for none; then recovers, and checks what is shown.
-fn check_faults(rt: &impl Abort, count: u8, first: u32, second: u32) -> Result<Outcome, Fail> {
+/// Commits and recovers with some calls refused; then recovers, and checks what is shown.
+fn check_faults(rt: &impl Abort, count: u8, refused: &[u32]) -> Result<Outcome, Fail> {
     let mut image = [0u8; IMAGE];
-    let mut card = DirectCard::new(&mut image, 3);
-    make_databases(&mut card, count)?;
-    let Ok(layer) = TroubleLayer::new(card, &[first, second], 4) else {
-        return Err(Fail::new("two numbers"));
-    };
-    let mut set = Set::new(names(count)?, layer);
+    let card = direct(&mut image, count)?;
+    let mut set = Set::new(names(count)?, layer(rt, card, refused));
     let _ = set.recover()?;
     let answer = commit_new(&mut set, count);
     let committed = answer == Ok(0);
@@ -51,7 +40,7 @@ fn check_faults(rt: &impl Abort, count: u8, first: u32, second: u32) -> Result<O
     assert_eq!(rt; set.is_ready(), recovered);
     let mut set = Set::new(names(count)?, set.into_card().into_below());
     let _ = set.recover()?;
-    check_all(rt, &mut set, count, shown_after(rt, answer)?)?;
+    check_all(rt, &mut set, count, shown_after(rt, answer)?);
     Ok(Outcome {
         committed,
         recovered,
@@ -61,13 +50,10 @@ fn check_faults(rt: &impl Abort, count: u8, first: u32, second: u32) -> Result<O
 /// Refuses each call of a commit in turn, and tells how many there are.
 fn commit_calls(rt: &impl Abort, count: u8) -> Result<u32, Fail> {
     let quiet = quiet_calls(count)?;
-    for done in 0..CALLS {
-        let call = quiet.saturating_add(done).saturating_add(1);
-        if check_faults(rt, count, call, 0)?.committed {
-            return Ok(done);
-        }
-    }
-    Err(Fail::new("no commit came through"))
+    calls_of(|call| {
+        let call = quiet.saturating_add(call);
+        Ok(check_faults(rt, count, &[call])?.committed)
+    })
 }
 
 #[test]
@@ -82,12 +68,10 @@ fn each_fault_of_a_commit(rt: HostRuntime) -> Result<(), Fail> {
 fn refused_after(rt: &impl Abort, count: u8, first: u32) -> Result<u32, Fail> {
     let mut refused = 0u32;
     let mut last = false;
-    for after in 0..CALLS {
-        let second = first.saturating_add(after).saturating_add(1);
-        last = check_faults(rt, count, first, second)?.recovered;
-        if !last {
-            refused = refused.saturating_add(1);
-        }
+    for after in 1..=CALLS {
+        let second = first.saturating_add(after);
+        last = check_faults(rt, count, &[first, second])?.recovered;
+        refused = refused.saturating_add(u32::from(!last));
     }
     assert!(rt; last);
     Ok(refused)
@@ -98,8 +82,8 @@ fn refused_after(rt: &impl Abort, count: u8, first: u32) -> Result<u32, Fail> {
 fn refused_recoveries(rt: &impl Abort, count: u8, calls: u32) -> Result<u32, Fail> {
     let quiet = quiet_calls(count)?;
     let mut refused = 0u32;
-    for done in 0..calls {
-        let first = quiet.saturating_add(done).saturating_add(1);
+    for call in 1..=calls {
+        let first = quiet.saturating_add(call);
         refused = refused.saturating_add(refused_after(rt, count, first)?);
     }
     Ok(refused)

@@ -16,3 +16,5 @@ mod faults;
 mod foreign;
 #[cfg(test)]
 mod scenes;
+#[cfg(test)]
+mod trials;

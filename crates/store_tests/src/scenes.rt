@@ -1,5 +1,5 @@
 // Two databases with files beside them, and what a recovery makes of that.
-use crate::contents::{make_databases, names};
+use crate::contents::{IMAGE, Version, check_all, check_page, direct, names};
 use card::{Card, CardFault};
 use direct_card::DirectCard;
 use recovery::Found;
@@ -8,71 +8,76 @@ use std::process::Abort;
 use std::test::Fail;
 use store::Set;
 
-/// 16 slots, with 2,048 bytes for each file.
-pub const IMAGE: usize = 33360;
-
 /// A file beside the databases.
 #[derive(Clone, Copy)]
 pub struct Beside<'a> {
-    pub name: &'a [u8],
-    pub bytes: &'a [u8],
+    name: &'a [u8],
+    bytes: &'a [u8],
 }
 
-/// Makes the databases, and the files beside them.
-pub fn make_scene<C: Card>(card: &mut C, files: &[Beside<'_>]) -> Result<(), CardFault> {
-    make_databases(card, 2)?;
-    for i in 0..files.len() {
-        let name = files[i].name;
-        card.create(name)?;
-        card.write(name, 0, files[i].bytes)?;
-        card.sync(name)?;
+impl<'a> Beside<'a> {
+    /// The file of that name and those bytes.
+    pub fn new(name: &'a [u8], bytes: &'a [u8]) -> Beside<'a> {
+        Beside { name, bytes }
     }
-    Ok(())
 }
 
-/// Makes a scene in an image, and recovers if that is asked: tells the refusal.
-fn refusal_in(
-    image: &mut [u8],
+/// A card with the databases, and the files beside them.
+fn scene<'a>(
+    image: &'a mut [u8; IMAGE],
     files: &[Beside<'_>],
-    recovers: bool,
-) -> Result<Option<Refusal>, Fail> {
-    let mut card = DirectCard::new(image, 3);
-    make_scene(&mut card, files)?;
-    if !recovers {
-        return Ok(None);
+) -> Result<DirectCard<'a>, CardFault> {
+    let mut card = direct(image, 2)?;
+    for file in files {
+        card.create(file.name)?;
+        card.write(file.name, 0, file.bytes)?;
+        card.sync(file.name)?;
     }
-    let mut set = Set::new(names(2)?, card);
-    match set.recover() {
-        Ok(_) => Ok(None),
-        Err(refusal) => Ok(Some(refusal)),
-    }
+    Ok(card)
+}
+
+/// Recovers a scene in an image, and tells the refusal.
+fn refusal_in(image: &mut [u8; IMAGE], files: &[Beside<'_>]) -> Result<Option<Refusal>, Fail> {
+    let mut set = Set::new(names(2)?, scene(image, files)?);
+    Ok(set.recover().err())
 }
 
 /// Checks that a recovery of the scene is refused so, and changes no byte of the card.
 pub fn check_refused(rt: &impl Abort, files: &[Beside<'_>], refusal: Refusal) -> Result<(), Fail> {
     let mut before = [0u8; IMAGE];
     let mut after = [0u8; IMAGE];
-    assert_eq!(rt; refusal_in(&mut before, files, false)?, None);
-    assert_eq!(rt; refusal_in(&mut after, files, true)?, Some(refusal));
+    let _ = scene(&mut before, files)?;
+    assert_eq!(rt; refusal_in(&mut after, files)?, Some(refusal));
     assert!(rt; before == after);
     Ok(())
 }
 
 /// Checks that a file is absent.
-pub fn check_absent<C: Card>(rt: &impl Abort, card: &mut C, name: &[u8]) -> Result<(), Fail> {
-    let length = card.length(name)?;
-    assert_eq!(rt; length, None);
+pub fn check_absent<C: Card>(rt: &impl Abort, card: &mut C, name: &[u8]) {
+    assert_eq!(rt; card.length(name), Ok(None));
+}
+
+/// Checks what a recovery of the scene finds of b's journal: a hot one has the second page as it is to
+/// be. What it does not write is as it was, and no journal and no super-journal is left.
+pub fn check_found(rt: &impl Abort, files: &[Beside<'_>], found: Found) -> Result<(), Fail> {
+    let mut image = [0u8; IMAGE];
+    let mut set = Set::new(names(2)?, scene(&mut image, files)?);
+    let recovery = set.recover()?;
+    assert_eq!(rt;
+        recovery.found,
+        [Found::None, found, Found::None, Found::None]
+    );
+    assert_eq!(rt; recovery.sizes, [2, 2, 1, 1]);
+    check_all(rt, &mut set, 1, Version::Old);
+    check_page(rt, &mut set, 1, 1, Version::Old);
+    let second = match found {
+        Found::Hot { .. } => Version::New,
+        _ => Version::Old,
+    };
+    check_page(rt, &mut set, 1, 2, second);
+    let mut card = set.into_card();
+    for name in [&b"a-journal"[..], b"b-journal", b"a-mj"] {
+        check_absent(rt, &mut card, name);
+    }
     Ok(())
-}
-
-/// Checks that the journals and the super-journal of the databases are absent.
-pub fn check_no_journals<C: Card>(rt: &impl Abort, card: &mut C) -> Result<(), Fail> {
-    check_absent(rt, card, b"a-journal")?;
-    check_absent(rt, card, b"b-journal")?;
-    check_absent(rt, card, b"a-mj")
-}
-
-/// The finding of a recovery for two databases.
-pub fn finding(a: Found, b: Found) -> [Found; 4] {
-    [a, b, Found::None, Found::None]
 }

@@ -15,11 +15,6 @@ ap_at P b e h = subst (λ (s : List Span). P (lying_at b s)) e h
 pub returns-in_err-list-clause-looked : goal.returns-in_err-list-clause-looked
 returns-in_err-list-clause-looked g c = looked_refused _ _ _ _ _ _ _ (absent_refused _ _ _ _ c.in_err-list.ensures.value c.from_residual.ensures.1).1 (looked_end _ _ _ _)
 
-pub check_names-requires : goal.check_names-requires
-check_names-requires g c =
-    let held = MatchOption-at_some _ _ c.in_ok-list.list c.in_ok-list.ensures.ok_part c.read_names.ensures in
-    ap_at LawfulNames c.args.bytes.now (sym c.as_slice.ensures.is) held.0
-
 pub returns-clause-told : goal.returns-clause-told
 returns-clause-told g c =
     let list = c.in_ok-list.list in
