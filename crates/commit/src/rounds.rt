@@ -1,7 +1,7 @@
 // Rounds through the databases that a commit changes, in order.
 ghost use Rattle.std.specs.Prelude.{◌≡◌, ℕ, ◌+◌, ◌<◌, List, [], ◌∷◌, ◌++◌, length as count_of};
 ghost use Rattle.card.specs.Calls.Op.{delete as deletes};
-ghost use Rattle.names.specs.Names.{named};
+ghost use Rattle.names.specs.Files.{how_many, file_of};
 ghost use Rattle.refusal.specs.declared.step.Step.TheVariants.{C3, C4};
 ghost use Rattle.steps.specs.Tasks.{Went};
 ghost use Rattle.journaling.specs.Plan.{for_each, call, change_tasks, only_tasks, journal_tasks, super_of};
@@ -36,7 +36,7 @@ pub fn write_databases<C: Card>(
     names: &Names,
     memory: &Memory,
 ) -> Result<(), SetFault>
-    ensures { (stored : ℕ → List ℕ) (base : List ℕ) → Went C.Card.meaning (for_each (λ d. change_tasks (named names.now.rows names.now.lens names.now.count) (change_of stored base memory.now d)) (changed_list memory.now names.now.count)) card.old result card.new }
+    ensures { (stored : ℕ → List ℕ) (base : List ℕ) → Went C.Card.meaning (for_each (λ d. change_tasks (file_of names.now) (change_of stored base memory.now d)) (changed_list memory.now (how_many names.now))) card.old result card.new }
 {
     for database in 0..names.count() {
         if is_changed(memory, database) {
@@ -48,7 +48,7 @@ pub fn write_databases<C: Card>(
 
 /// Deletes the journal of each database: with one, that is the deletion that makes the commit count.
 pub fn delete_only<C: Card>(card: &mut C, names: &Names, memory: &Memory) -> Result<(), SetFault>
-    ensures { Went C.Card.meaning (for_each (λ d. call (named names.now.rows names.now.lens names.now.count) C4 (4 + d) deletes ∷ []) (changed_list memory.now names.now.count)) card.old result card.new }
+    ensures { Went C.Card.meaning (for_each (λ d. call (file_of names.now) C4 (4 + d) deletes ∷ []) (changed_list memory.now (how_many names.now))) card.old result card.new }
 {
     for database in 0..names.count() {
         if is_changed(memory, database) {
@@ -69,7 +69,7 @@ pub fn make_journals<C: Card>(
     linked: bool,
     buffer: &mut [u8; JOURNAL_LIMIT],
 ) -> Result<(), SetFault>
-    ensures { (stored : ℕ → List ℕ) → ((k : ℕ) → k < names.now.count → contents (C.Card.meaning.holds card.old (named names.now.rows names.now.lens names.now.count k)) ≡ stored k) → Went C.Card.meaning (for_each (λ d. journal_tasks (named names.now.rows names.now.lens names.now.count) nonce (super_of (named names.now.rows names.now.lens names.now.count) linked) (change_of stored sizes.now.rows memory.now d)) (changed_list memory.now names.now.count)) card.old result card.new }
+    ensures { (stored : ℕ → List ℕ) → ((k : ℕ) → k < how_many names.now → contents (C.Card.meaning.holds card.old (file_of names.now k)) ≡ stored k) → Went C.Card.meaning (for_each (λ d. journal_tasks (file_of names.now) nonce (super_of (file_of names.now) linked) (change_of stored sizes.now.rows memory.now d)) (changed_list memory.now (how_many names.now))) card.old result card.new }
 {
     for database in 0..names.count() {
         if is_changed(memory, database) {

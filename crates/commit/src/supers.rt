@@ -2,7 +2,7 @@
 ghost use Rattle.std.specs.Prelude.{◌≡◌, ℕ, ◌+◌, ◌≤◌, Bool, true, false, List, [], ◌∷◌, ◌++◌, map, length as count_of, take, if◌then◌else◌};
 ghost use Rattle.card.specs.Calls.Op.{delete as deletes};
 ghost use Rattle.super_journal.specs.Super.{super_journal_bytes as names_bytes};
-ghost use Rattle.names.specs.Names.{named};
+ghost use Rattle.names.specs.Files.{how_many, file_of};
 ghost use Rattle.refusal.specs.declared.step.Step.TheVariants.{C4};
 ghost use Rattle.steps.specs.Tasks.{Went};
 ghost use Rattle.journaling.specs.Plan.{for_each, call, naming_tasks};
@@ -33,7 +33,7 @@ fn put_ended(buffer: &mut [u8; JOURNAL_LIMIT], place: usize, name: &[u8]) -> usi
 /// Fills the buffer with the names of the journals of a commit, and tells how long that is.
 fn fill_super(buffer: &mut [u8; JOURNAL_LIMIT], names: &Names, memory: &Memory) -> usize
     ensures few { result ≤ 17724 }
-    ensures filled { take result buffer.new ≡ names_bytes (map (λ d. named names.now.rows names.now.lens names.now.count (4 + d)) (changed_list memory.now names.now.count)) }
+    ensures filled { take result buffer.new ≡ names_bytes (map (λ d. file_of names.now (4 + d)) (changed_list memory.now (how_many names.now))) }
 {
     let mut end = 0;
     for database in 0..names.count() {
@@ -53,7 +53,7 @@ pub fn open_super<C: Card>(
     many: bool,
     buffer: &mut [u8; JOURNAL_LIMIT],
 ) -> Result<(), SetFault>
-    ensures { Went C.Card.meaning (if many then naming_tasks (named names.now.rows names.now.lens names.now.count) (map (λ d. named names.now.rows names.now.lens names.now.count (4 + d)) (changed_list memory.now names.now.count)) else []) card.old result card.new }
+    ensures { Went C.Card.meaning (if many then naming_tasks (file_of names.now) (map (λ d. file_of names.now (4 + d)) (changed_list memory.now (how_many names.now))) else []) card.old result card.new }
 {
     if !many {
         return Ok(());
@@ -73,7 +73,7 @@ pub fn close<C: Card>(
     memory: &Memory,
     many: bool,
 ) -> Result<(), SetFault>
-    ensures { Went C.Card.meaning (if many then call (named names.now.rows names.now.lens names.now.count) C4 8 deletes ∷ [] else for_each (λ d. call (named names.now.rows names.now.lens names.now.count) C4 (4 + d) deletes ∷ []) (changed_list memory.now names.now.count)) card.old result card.new }
+    ensures { Went C.Card.meaning (if many then call (file_of names.now) C4 8 deletes ∷ [] else for_each (λ d. call (file_of names.now) C4 (4 + d) deletes ∷ []) (changed_list memory.now (how_many names.now))) card.old result card.new }
 {
     if !many {
         return delete_only(card, names, memory);
@@ -84,7 +84,7 @@ pub fn close<C: Card>(
 
 /// Deletes each journal after the super-journal, going on after a refusal, and tells how many were refused.
 pub fn drop_journals<C: Card>(card: &mut C, names: &Names, memory: &Memory, many: bool) -> usize
-    ensures { Dropped C.Card.meaning (if many then map (λ d. record { name = named names.now.rows names.now.lens names.now.count (4 + d); op = deletes }) (changed_list memory.now names.now.count) else []) card.old result card.new }
+    ensures { Dropped C.Card.meaning (if many then map (λ d. record { name = file_of names.now (4 + d); op = deletes }) (changed_list memory.now (how_many names.now)) else []) card.old result card.new }
 {
     let mut left = 0;
     if !many {

@@ -1,7 +1,7 @@
 // The journal of one database: its originals read, the bytes filled around them, and all stored.
 ghost use Rattle.std.specs.Prelude.{◌≡◌, ℕ, ◌<◌, ◌≤◌, true, [], Ok, Err};
 ghost use Rattle.journal_writer.specs.Written.{Filled, pages_lawful};
-ghost use Rattle.names.specs.Names.{named};
+ghost use Rattle.names.specs.Files.{how_many, file_of};
 ghost use Rattle.pager.specs.Sound.{map_of};
 ghost use Rattle.steps.specs.Tasks.{Went};
 ghost use Rattle.journaling.specs.Plan.{journal_tasks, super_of};
@@ -30,7 +30,7 @@ fn fill(
     requires some { 1 ≤ size }
     requires small { size ≤ 4096 }
     requires pages { pages_lawful size pages.now ≡ true }
-    ensures { Filled buffer.old nonce size pages.now (super_of (named names.now.rows names.now.lens names.now.count) linked) (Ok result) buffer.new }
+    ensures { Filled buffer.old nonce size pages.now (super_of (file_of names.now) linked) (Ok result) buffer.new }
 {
     let file = names.file(SUPER_JOURNAL);
     let name = if linked { Some(file.bytes()) } else { None };
@@ -53,11 +53,11 @@ pub fn make_journal<C: Card>(
     linked: bool,
     buffer: &mut [u8; JOURNAL_LIMIT],
 ) -> Result<(), SetFault>
-    requires listed { database < names.now.count }
+    requires listed { database < how_many names.now }
     requires known { database < memory.now.count }
     requires some { 1 ≤ size }
     requires small { size ≤ 4096 }
-    ensures { Went C.Card.meaning (journal_tasks (named names.now.rows names.now.lens names.now.count) nonce (super_of (named names.now.rows names.now.lens names.now.count) linked) (record { database = database; stored = contents (C.Card.meaning.holds card.old (named names.now.rows names.now.lens names.now.count database)); size = size; recorded = recorded (map_of memory.now.maps database) size; pages = [] })) card.old result card.new }
+    ensures { Went C.Card.meaning (journal_tasks (file_of names.now) nonce (super_of (file_of names.now) linked) (record { database = database; stored = contents (C.Card.meaning.holds card.old (file_of names.now database)); size = size; recorded = recorded (map_of memory.now.maps database) size; pages = [] })) card.old result card.new }
 {
     let file = names.file(database);
     let journal = names.file(DATABASES + database);

@@ -1,6 +1,6 @@
 // What is found before anything is changed.
 ghost use Rattle.refusal.specs.declared.step.Step.TheVariants.{R1};
-ghost use Rattle.set_files.specs.Files.{file_of};
+ghost use Rattle.names.specs.Files.{how_many, file_of};
 ghost use Rattle.survey.specs.Finds.{Finds};
 ghost use Rattle.set_files.specs.Looked.{Looked, dropped};
 
@@ -23,7 +23,7 @@ pub fn survey<C: Card>(
     buffer: &mut [u8; JOURNAL_LIMIT],
 ) -> Result<[Found; DATABASES], Refusal>
     ensures looked { Looked C.Card.meaning R1 (file_of names.now) card.old (dropped result) card.new }
-    ensures told { Finds (C.Card.meaning.holds card.old) (file_of names.now) names.now.count result }
+    ensures told { Finds (C.Card.meaning.holds card.old) (file_of names.now) (how_many names.now) result }
 {
     all_present(card, names)?;
     let journals = judge_journals(card, names, buffer)?;

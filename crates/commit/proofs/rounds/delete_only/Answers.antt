@@ -2,7 +2,7 @@ use Rattle.std.proofs.Common.{ℕ, ◌+◌, [], ◌∷◌, Ok, Err, sym, refl, a
 use Rattle.std.proofs.lemmas.Result.{err_from_is_err_and}
 use Rattle.card.specs.Meaning.{Meaning, Name}
 use Rattle.card.specs.Calls.{delete}
-use Rattle.names.specs.Names.{named}
+use Rattle.names.specs.Files.{how_many, file_of}
 use Rattle.refusal.specs.declared.fault.SetFault.{SetFault}
 use Rattle.refusal.specs.declared.step.Step.TheVariants.{C4}
 use Rattle.steps.proofs.Went.{went_as, went_up}
@@ -17,7 +17,7 @@ pub loop-database-preserved : goal.loop-database-preserved
 loop-database-preserved g c =
     let m : Meaning g.row.C.Denot = g.C.Card.meaning in
     let names = c.args.names.now in
-    let file : ℕ → Name = named names.rows names.lens names.count in
+    let file : ℕ → Name = file_of names in
     let mem = c.args.memory.now in
     let start = c.args.card.now in
     let d = c.loop-database.database in
@@ -35,23 +35,23 @@ pub returns : goal.returns
 returns g c =
     let m : Meaning g.row.C.Denot = g.C.Card.meaning in
     let names = c.args.names.now in
-    let file : ℕ → Name = named names.rows names.lens names.count in
+    let file : ℕ → Name = file_of names in
     let mem = c.args.memory.now in
     let start = c.args.card.now in
     let d = c.loop-database.database in
-    round_all m (λ k. call file C4 (4 + k) delete ∷ []) mem start d names.count c.loop-database.card (omega (arith, c.loop-database.auto.database-end, c.loop-database-test.false, c.count-database-end.ensures)) c.loop-database.invariant
+    round_all m (λ k. call file C4 (4 + k) delete ∷ []) mem start d (how_many names) c.loop-database.card (omega (arith, c.loop-database.auto.database-end, c.loop-database-test.false, c.count-database-end.ensures)) c.loop-database.invariant
 
 pub returns-in_err-delete : goal.returns-in_err-delete
 returns-in_err-delete g c =
     let m : Meaning g.row.C.Denot = g.C.Card.meaning in
     let names = c.args.names.now in
-    let file : ℕ → Name = named names.rows names.lens names.count in
+    let file : ℕ → Name = file_of names in
     let mem = c.args.memory.now in
     let start = c.args.card.now in
     let d = c.loop-database.database in
     let p = err_from_is_err_and c.from_residual.result c.from_residual.ensures.1 in
     let f = c.in_err-delete.field-0.0 in
     went_up m _ start c.delete.new.card f c.from_residual.result (p.1 ∙ ap (λ (f : SetFault). Err f) p.2)
-    (round_stop m (λ k. call file C4 (4 + k) delete ∷ []) mem start d names.count c.loop-database.card c.delete.new.card f (omega (arith, c.loop-database-test.true, c.count-database-end.ensures)) (sym c.is_changed.ensures ∙ c.if-is_changed.true)
+    (round_stop m (λ k. call file C4 (4 + k) delete ∷ []) mem start d (how_many names) c.loop-database.card c.delete.new.card f (omega (arith, c.loop-database-test.true, c.count-database-end.ensures)) (sym c.is_changed.ensures ∙ c.if-is_changed.true)
     c.loop-database.invariant
     (went_as m c.loop-database.card c.delete.new.card (Err f) _ (at C4 (4 + d)) _ (file (4 + d)) delete delete c.new.ensures (c.bytes.ensures ∙ c.file-journal.ensures) refl c.in_err-delete.ensures))

@@ -1,7 +1,7 @@
 use Rattle.std.proofs.Common.{ℕ, ◌+◌, Err, sym, ap, ◌∙◌, subst, arith}
 use Rattle.std.proofs.lemmas.Result.{err_from_is_err_and}
 use Rattle.card.specs.Meaning.{Meaning, Name}
-use Rattle.names.specs.Names.{named}
+use Rattle.names.specs.Files.{how_many, file_of}
 use Rattle.refusal.specs.declared.fault.SetFault.{SetFault}
 use Rattle.steps.proofs.Went.{went_up}
 use Rattle.journaling.specs.Plan.{change_tasks}
@@ -16,7 +16,7 @@ pub loop-database-preserved : goal.loop-database-preserved
 loop-database-preserved g c =
     let m : Meaning g.row.C.Denot = g.C.Card.meaning in
     let names = c.args.names.now in
-    let file : ℕ → Name = named names.rows names.lens names.count in
+    let file : ℕ → Name = file_of names in
     let mem = c.args.memory.now in
     let start = c.args.card.now in
     let d = c.loop-database.database in
@@ -34,18 +34,18 @@ pub returns : goal.returns
 returns g c =
     let m : Meaning g.row.C.Denot = g.C.Card.meaning in
     let names = c.args.names.now in
-    let file : ℕ → Name = named names.rows names.lens names.count in
+    let file : ℕ → Name = file_of names in
     let mem = c.args.memory.now in
     let start = c.args.card.now in
     let d = c.loop-database.database in
     λ stored base.
-    round_all m (λ k. change_tasks file (change_of stored base mem k)) mem start d names.count c.loop-database.card (omega (arith, c.loop-database.auto.database-end, c.loop-database-test.false, c.count-database-end.ensures)) (c.loop-database.invariant stored base)
+    round_all m (λ k. change_tasks file (change_of stored base mem k)) mem start d (how_many names) c.loop-database.card (omega (arith, c.loop-database.auto.database-end, c.loop-database-test.false, c.count-database-end.ensures)) (c.loop-database.invariant stored base)
 
 pub returns-in_err-write_pages : goal.returns-in_err-write_pages
 returns-in_err-write_pages g c =
     let m : Meaning g.row.C.Denot = g.C.Card.meaning in
     let names = c.args.names.now in
-    let file : ℕ → Name = named names.rows names.lens names.count in
+    let file : ℕ → Name = file_of names in
     let mem = c.args.memory.now in
     let start = c.args.card.now in
     let d = c.loop-database.database in
@@ -53,5 +53,5 @@ returns-in_err-write_pages g c =
     let f = c.in_err-write_pages.field-0.0 in
     λ stored base.
     went_up m _ start c.write_pages.new.card f c.from_residual.result (p.1 ∙ ap (λ (f : SetFault). Err f) p.2)
-    (round_stop m (λ k. change_tasks file (change_of stored base mem k)) mem start d names.count c.loop-database.card c.write_pages.new.card f (omega (arith, c.loop-database-test.true, c.count-database-end.ensures)) (sym c.is_changed.ensures ∙ c.if-is_changed.true)
+    (round_stop m (λ k. change_tasks file (change_of stored base mem k)) mem start d (how_many names) c.loop-database.card c.write_pages.new.card f (omega (arith, c.loop-database-test.true, c.count-database-end.ensures)) (sym c.is_changed.ensures ∙ c.if-is_changed.true)
     (c.loop-database.invariant stored base) (c.in_err-write_pages.ensures stored))

@@ -1,5 +1,5 @@
 use Rattle.std.proofs.Common.{ℕ, List}
-use Rattle.names.specs.Names.{named}
+use Rattle.names.specs.Files.{file_of}
 use Rattle.journaling.specs.Plan.{change_tasks}
 use Rattle.journaling.specs.Changes.{change_of}
 use Rattle.commit.proofs.Turns.{Round}
@@ -9,4 +9,4 @@ abbrev pub invariant-loop-database : goal.invariant-loop-database
 invariant-loop-database g l =
     (stored : ℕ → List ℕ) (base : List ℕ) →
     Round g.C.Card.meaning
-    (λ d. change_tasks (named l.names.rows l.names.lens l.names.count) (change_of stored base l.memory d)) l.memory l.initial.card l.database l.card
+    (λ d. change_tasks (file_of l.names) (change_of stored base l.memory d)) l.memory l.initial.card l.database l.card

@@ -3,7 +3,7 @@ use Rattle.std.proofs.lemmas.Bool.{cond-true, cond-false}
 use Rattle.card.specs.Meaning.{Meaning, Name}
 use Rattle.card.specs.Calls.{Called, cause_of, delete}
 use Rattle.card.specs.Runs.{Act}
-use Rattle.names.specs.Names.{named}
+use Rattle.names.specs.Files.{how_many, file_of}
 use Rattle.commit.specs.Ended.{Dropped}
 use Rattle.commit.proofs.Trying.{dropped_none, Trying, trying_none, trying_skip, trying_more, ill, well}
 use Rattle.commit.proofs.supers.drop_journals.Goals as goal
@@ -12,7 +12,7 @@ pub returns-then-not-many : goal.returns-then-not-many
 returns-then-not-many g c =
     let m : Meaning g.row.C.Denot = g.C.Card.meaning in
     let names = c.args.names.now in
-    let file : ℕ → Name = named names.rows names.lens names.count in
+    let file : ℕ → Name = file_of names in
     let mem = c.args.memory.now in
     let start = c.args.card.now in
     subst (λ (acts : List Act). Dropped m acts start 0 start) (sym (cond-false c.args.many _ _ c.if-not-many.true)) (dropped_none m start)
@@ -21,7 +21,7 @@ pub loop-database-init : goal.loop-database-init
 loop-database-init g c =
     let m : Meaning g.row.C.Denot = g.C.Card.meaning in
     let names = c.args.names.now in
-    let file : ℕ → Name = named names.rows names.lens names.count in
+    let file : ℕ → Name = file_of names in
     let mem = c.args.memory.now in
     let start = c.args.card.now in
     let act : ℕ → Act = λ k. record { name = file (4 + k); op = delete } in
@@ -31,7 +31,7 @@ pub loop-database-preserved : goal.loop-database-preserved
 loop-database-preserved g c =
     let m : Meaning g.row.C.Denot = g.C.Card.meaning in
     let names = c.args.names.now in
-    let file : ℕ → Name = named names.rows names.lens names.count in
+    let file : ℕ → Name = file_of names in
     let mem = c.args.memory.now in
     let start = c.args.card.now in
     let act : ℕ → Act = λ k. record { name = file (4 + k); op = delete } in
@@ -70,10 +70,10 @@ pub returns : goal.returns
 returns g c =
     let m : Meaning g.row.C.Denot = g.C.Card.meaning in
     let names = c.args.names.now in
-    let file : ℕ → Name = named names.rows names.lens names.count in
+    let file : ℕ → Name = file_of names in
     let mem = c.args.memory.now in
     let start = c.args.card.now in
     let act : ℕ → Act = λ k. record { name = file (4 + k); op = delete } in
-    let e : c.loop-database.database ≡ names.count = omega (arith, c.loop-database.auto.database-end, c.loop-database-test.false, c.count-database-end.ensures) in
+    let e : c.loop-database.database ≡ how_many names = omega (arith, c.loop-database.auto.database-end, c.loop-database-test.false, c.count-database-end.ensures) in
     subst (λ (acts : List Act). Dropped m acts start c.loop-database.left c.loop-database.card) (sym (cond-true c.args.many _ _ c.if-not-many.false))
     (subst (λ (k : ℕ). Trying m act mem start k c.loop-database.left c.loop-database.card) e c.loop-database.invariant.0)

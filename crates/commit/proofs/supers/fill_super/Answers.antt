@@ -1,7 +1,6 @@
 use Rattle.std.proofs.Common.{◌≡◌, ℕ, ◌+◌, ◌≤◌, [], ◌∷◌, ◌++◌, length, take, sym, ap, ◌∙◌, subst, arith}
-use Rattle.std.proofs.lemmas.List.{length-take}
 use Rattle.card.specs.Meaning.{Bytes, Name}
-use Rattle.names.specs.Names.{named}
+use Rattle.names.specs.Files.{how_many, file_of}
 use Rattle.commit.proofs.Listing.{Listing, listing_none, listing_skip, listing_more}
 use Rattle.commit.proofs.supers.fill_super.Goals as goal
 
@@ -10,15 +9,13 @@ loop-database-init c = listing_none _ _ c.args.buffer.now c.told-buffer
 
 pub put_ended-end-requires : goal.put_ended-end-requires
 put_ended-end-requires c =
-    let row = c.file-journal.result.row in
-    let n = c.file-journal.result.length in
-    omega (arith, c.loop-database.invariant.few, c.loop-database-test.true, c.count-database-end.ensures, c.args.names.now.few, ap length c.bytes.ensures, length-take n row, c.file-journal.result.short)
+    omega (arith, c.loop-database.invariant.few, c.loop-database-test.true, c.count-database-end.ensures, c.args.names.now.few, ap length c.bytes.ensures, c.file-journal.result.short)
 
 pub loop-database-preserved : goal.loop-database-preserved
 loop-database-preserved c =
     let names = c.args.names.now in
     let mem = c.args.memory.now in
-    let name : ℕ → Name = λ k. named names.rows names.lens names.count (4 + k) in
+    let name : ℕ → Name = λ k. file_of names (4 + k) in
     let d = c.loop-database.database in
     elim c.if-is_changed.branch [
       | goal.then-is_changed w ↦
@@ -29,7 +26,7 @@ loop-database-preserved c =
           let at : w.put_ended-end.result ≡ end + length (name d) + 1 = w.put_ended-end.ensures.end ∙ ap (λ (k : ℕ). end + k + 1) long in
           let put : take (end + length (name d) + 1) new ≡ take end c.loop-database.buffer ++ (name d ++ (0 ∷ [])) =
           ap (λ (k : ℕ). take k new) (sym at) ∙ w.put_ended-end.ensures.put ∙ ap (λ (x : Bytes). take end c.loop-database.buffer ++ (x ++ (0 ∷ []))) is in
-          let short : length (name d) ≤ 32 = omega (arith, sym long, ap length w.bytes.ensures, length-take w.file-journal.result.length w.file-journal.result.row, w.file-journal.result.short) in
+          let short : length (name d) ≤ 32 = omega (arith, sym long, ap length w.bytes.ensures, w.file-journal.result.short) in
           let room : length new ≡ 17724 = ap length (sym w.buffer-is) ∙ c.if-is_changed.array_long in
           subst (λ (x : Bytes). Listing name mem (d + 1) x c.if-is_changed.end) (sym w.buffer-is)
           (subst (λ (k : ℕ). Listing name mem (d + 1) new k) (sym (w.end-is ∙ at))
@@ -44,8 +41,8 @@ pub returns : goal.returns
 returns c =
     let names = c.args.names.now in
     let mem = c.args.memory.now in
-    let name : ℕ → Name = λ k. named names.rows names.lens names.count (4 + k) in
-    let e : c.loop-database.database ≡ names.count = omega (arith, c.loop-database.auto.database-end, c.loop-database-test.false, c.count-database-end.ensures) in
+    let name : ℕ → Name = λ k. file_of names (4 + k) in
+    let e : c.loop-database.database ≡ how_many names = omega (arith, c.loop-database.auto.database-end, c.loop-database-test.false, c.count-database-end.ensures) in
     record {
       few = omega (arith, c.loop-database.invariant.few, e, names.few);
       filled = (subst (λ (k : ℕ). Listing name mem k c.loop-database.buffer c.loop-database.end) e c.loop-database.invariant).filled;

@@ -4,7 +4,7 @@ use Rattle.std.proofs.lemmas.Bool.{cond-true, cond-false}
 use Rattle.std.proofs.lemmas.Result.{err_from_is_err_and}
 use Rattle.card.specs.Meaning.{Meaning, Name}
 use Rattle.card.specs.Calls.{create, write, sync}
-use Rattle.names.specs.Names.{named}
+use Rattle.names.specs.Files.{how_many, file_of}
 use Rattle.refusal.specs.declared.fault.SetFault.{SetFault}
 use Rattle.refusal.specs.declared.step.Step.TheVariants.{C1}
 use Rattle.steps.specs.Tasks.{Task, Went}
@@ -18,7 +18,7 @@ pub returns-then-not-many : goal.returns-then-not-many
 returns-then-not-many g c =
     let m : Meaning g.row.C.Denot = g.C.Card.meaning in
     let names = c.args.names.now in
-    let file : ℕ → Name = named names.rows names.lens names.count in
+    let file : ℕ → Name = file_of names in
     let mem = c.args.memory.now in
     let start = c.args.card.now in
     subst (λ (ts : List Task). Went m {V = Unit {0}} ts start (Ok tt) start) (sym (cond-false c.args.many _ _ c.if-not-many.true)) (went_end m start tt)
@@ -27,10 +27,10 @@ pub returns-in_err-create : goal.returns-in_err-create
 returns-in_err-create g c =
     let m : Meaning g.row.C.Denot = g.C.Card.meaning in
     let names = c.args.names.now in
-    let file : ℕ → Name = named names.rows names.lens names.count in
+    let file : ℕ → Name = file_of names in
     let mem = c.args.memory.now in
     let start = c.args.card.now in
-    let ns = map (λ d. file (4 + d)) (changed_list mem names.count) in
+    let ns = map (λ d. file (4 + d)) (changed_list mem (how_many names)) in
     let p = err_from_is_err_and c.from_residual.result c.from_residual.ensures.1 in
     let f = c.in_err-create.field-0.0 in
     let first = c.create.new.card in
@@ -44,10 +44,10 @@ pub returns-in_err-write : goal.returns-in_err-write
 returns-in_err-write g c =
     let m : Meaning g.row.C.Denot = g.C.Card.meaning in
     let names = c.args.names.now in
-    let file : ℕ → Name = named names.rows names.lens names.count in
+    let file : ℕ → Name = file_of names in
     let mem = c.args.memory.now in
     let start = c.args.card.now in
-    let ns = map (λ d. file (4 + d)) (changed_list mem names.count) in
+    let ns = map (λ d. file (4 + d)) (changed_list mem (how_many names)) in
     let p = err_from_is_err_and c.from_residual-in_err-write.result c.from_residual-in_err-write.ensures.1 in
     let f = c.in_err-write.field-0.0 in
     let first = c.create.new.card in
@@ -66,10 +66,10 @@ pub returns : goal.returns
 returns g c =
     let m : Meaning g.row.C.Denot = g.C.Card.meaning in
     let names = c.args.names.now in
-    let file : ℕ → Name = named names.rows names.lens names.count in
+    let file : ℕ → Name = file_of names in
     let mem = c.args.memory.now in
     let start = c.args.card.now in
-    let ns = map (λ d. file (4 + d)) (changed_list mem names.count) in
+    let ns = map (λ d. file (4 + d)) (changed_list mem (how_many names)) in
     let first = c.create.new.card in
     let name1 = c.bytes.ensures ∙ c.file-file.ensures in
     let created = went_as m start first (Ok tt) _ (at C1 8) _ (file 8) create create c.new-site.ensures name1 refl c.in_ok-create.ensures in

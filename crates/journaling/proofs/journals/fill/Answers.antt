@@ -1,9 +1,8 @@
 use Rattle.std.proofs.Common.{◌≡◌, ℕ, ◌≤◌, length, Ok, Err, Option, ap, ◌∙◌, subst, arith}
-use Rattle.std.proofs.lemmas.List.{length-take}
 use Rattle.card.specs.Meaning.{Name}
 use Rattle.journal_writer.specs.Written.{Filled, told}
-use Rattle.names.specs.Names.{named}
-use Rattle.names.proofs.Files.{named_super}
+use Rattle.names.specs.Files.{names_of, file_of}
+use Rattle.names.proofs.Files.{super_long}
 use Rattle.journaling.specs.Plan.{super_of}
 use Rattle.journaling.proofs.Fills.{name_linked, name_free, not_refused}
 use Rattle.journaling.proofs.journals.fill.Goals as goal
@@ -11,23 +10,21 @@ use Rattle.journaling.proofs.journals.fill.Goals as goal
 pub unreachable-requires : goal.unreachable-requires
 unreachable-requires c =
     let names = c.args.names.now in
-    let file : ℕ → Name = named names.rows names.lens names.count in
+    let file : ℕ → Name = file_of names in
     let is : told c.if-linked.name ≡ super_of file c.args.linked =
     elim c.if-linked.branch [
       | goal.then-linked w ↦ name_linked file _ _ _ w.name-is (w.bytes.ensures ∙ c.file-file.ensures) w.if-linked.true
       | goal.else-linked w ↦ name_free file _ _ w.name-is w.if-linked.false
     ] in
-    let row = c.file-file.result.row in
-    let n = c.file-file.result.length in
-    let low : 1 ≤ length (file 8) = omega (arith, named_super names.rows names.lens names.count) in
-    let high : length (file 8) ≤ 32 = omega (arith, ap length c.file-file.ensures, length-take n row, c.file-file.result.short) in
+    let low : 1 ≤ length (file 8) = omega (arith, super_long (names_of names)) in
+    let high : length (file 8) ≤ 32 = omega (arith, ap length c.file-file.ensures, c.file-file.result.short) in
     not_refused file c.args.linked c.args.buffer.now c.fill_journal.new.buffer c.args.nonce c.args.size c.args.pages.now c.in_default.field-0 c.requires.some c.requires.small c.requires.pages low high c.told-buffer
     (subst (λ (o : Option Name). Filled c.args.buffer.now c.args.nonce c.args.size c.args.pages.now o (Err c.in_default.field-0) c.fill_journal.new.buffer) is c.in_default.ensures)
 
 pub returns : goal.returns
 returns c =
     let names = c.args.names.now in
-    let file : ℕ → Name = named names.rows names.lens names.count in
+    let file : ℕ → Name = file_of names in
     let is : told c.if-linked.name ≡ super_of file c.args.linked =
     elim c.if-linked.branch [
       | goal.then-linked w ↦ name_linked file _ _ _ w.name-is (w.bytes.ensures ∙ c.file-file.ensures) w.if-linked.true

@@ -6,8 +6,8 @@ use Rattle.card.specs.Meaning.{Meaning, Name}
 use Rattle.card.specs.Calls.{create}
 use Rattle.journal_writer.specs.OnCard.{store_acts}
 use Rattle.journal_writer.specs.Written.{Filled, pages_lawful, originals}
-use Rattle.names.specs.Names.{named}
-use Rattle.names.proofs.Files.{a_database, a_journal, named_apart}
+use Rattle.names.specs.Files.{how_many, file_of}
+use Rattle.names.proofs.Files.{database_is_file, journal_is_file, files_apart}
 use Rattle.pager.specs.Sound.{map_of}
 use Rattle.pager.proofs.Counted.{changed_few}
 use Rattle.refusal.specs.declared.fault.SetFault.{SetFault}
@@ -32,7 +32,7 @@ pub returns-in_err-create : goal.returns-in_err-create
 returns-in_err-create g c =
     let m : Meaning g.row.C.Denot = g.C.Card.meaning in
     let names = c.args.names.now in
-    let file : ℕ → Name = named names.rows names.lens names.count in
+    let file : ℕ → Name = file_of names in
     let d = c.args.database in
     let start = c.args.card.now in
     let super = super_of file c.args.linked in
@@ -56,7 +56,7 @@ pub returns-in_err-read_originals : goal.returns-in_err-read_originals
 returns-in_err-read_originals g c =
     let m : Meaning g.row.C.Denot = g.C.Card.meaning in
     let names = c.args.names.now in
-    let file : ℕ → Name = named names.rows names.lens names.count in
+    let file : ℕ → Name = file_of names in
     let d = c.args.database in
     let start = c.args.card.now in
     let super = super_of file c.args.linked in
@@ -87,7 +87,7 @@ pub returns : goal.returns
 returns g c =
     let m : Meaning g.row.C.Denot = g.C.Card.meaning in
     let names = c.args.names.now in
-    let file : ℕ → Name = named names.rows names.lens names.count in
+    let file : ℕ → Name = file_of names in
     let d = c.args.database in
     let start = c.args.card.now in
     let super = super_of file c.args.linked in
@@ -109,7 +109,7 @@ returns g c =
     (subst (λ (x : Name). originals old 0 pages ≡ map (original (contents (m.holds first x))) pages) name c.in_ok-read_originals.ensures.read) in
     let filled : Filled old c.args.nonce c.args.size (recorded s c.args.size) super (Ok n) new =
     subst (λ (ps : List ℕ). Filled old c.args.nonce c.args.size ps super (Ok n) new) is c.fill-length.ensures in
-    let apart = named_apart names.rows names.lens names.count d (4 + d) names.apart (a_database c.requires.listed) (a_journal c.requires.listed) (λ e. omega arith) in
+    let apart = files_apart names d (4 + d) (database_is_file (how_many names) d c.requires.listed) (journal_is_file (how_many names) d c.requires.listed) (λ e. omega arith) in
     let stored = went_acted m second last c.new-site.result _ c.store_journal.result c.told.result c.told.ensures c.store_journal.ensures in
     stored_whole m file c.args.nonce super ch start first created second old new n c.recorded_pages-recorded.result.count read refl apart lies filled last c.told.result
     (omega (arith, ap length c.recorded_pages-recorded.ensures, length-take c.recorded_pages-recorded.result.count c.recorded_pages-recorded.result.rows, c.recorded_pages-recorded.result.few))

@@ -2,7 +2,7 @@ use Rattle.std.proofs.Common.{ℕ, [], ◌∷◌, Ok, Err, sym, refl, ap, ◌∙
 use Rattle.std.proofs.lemmas.Result.{err_from_is_err_and}
 use Rattle.card.specs.Meaning.{Meaning, Name}
 use Rattle.card.specs.Calls.{write, sync}
-use Rattle.names.specs.Names.{named}
+use Rattle.names.specs.Files.{file_of}
 use Rattle.refusal.specs.declared.fault.SetFault.{SetFault}
 use Rattle.refusal.specs.declared.step.Step.TheVariants.{C3}
 use Rattle.steps.proofs.Went.{went_as, went_up}
@@ -18,7 +18,7 @@ returns-in_err-write g c =
     let m : Meaning g.row.C.Denot = g.C.Card.meaning in
     let names = c.args.names.now in
     let d = c.args.database in
-    let file : ℕ → Name = named names.rows names.lens names.count in
+    let file : ℕ → Name = file_of names in
     let mem = c.args.memory.now in
     let start = c.args.card.now in
     let p = err_from_is_err_and c.from_residual.result c.from_residual.ensures.1 in
@@ -36,7 +36,7 @@ loop-page-preserved g c =
     let m : Meaning g.row.C.Denot = g.C.Card.meaning in
     let names = c.args.names.now in
     let d = c.args.database in
-    let file : ℕ → Name = named names.rows names.lens names.count in
+    let file : ℕ → Name = file_of names in
     let mem = c.args.memory.now in
     let start = c.args.card.now in
     let page = c.in-Some.page in
@@ -50,7 +50,7 @@ returns g c =
     let m : Meaning g.row.C.Denot = g.C.Card.meaning in
     let names = c.args.names.now in
     let d = c.args.database in
-    let file : ℕ → Name = named names.rows names.lens names.count in
+    let file : ℕ → Name = file_of names in
     let mem = c.args.memory.now in
     let start = c.args.card.now in
     let w = went_as m c.loop-page.card c.sync.new.card c.sync.result _ (at C3 d) _ (file d) sync sync c.new-site.ensures (c.bytes-2.ensures ∙ c.file-file.ensures) refl c.sync.ensures in

@@ -1,7 +1,8 @@
 use Rattle.std.proofs.Common.{ℕ, ◌<◌, List, Err, Result, sym, ap, ◌∙◌, subst, arith}
 use Rattle.std.proofs.lemmas.Result.{err_from_is_err_and}
 use Rattle.refusal.specs.declared.refusals.Refusal.{Refusal}
-use Rattle.set_files.specs.Files.{Holds, file_of}
+use Rattle.names.specs.Files.{how_many, file_of}
+use Rattle.set_files.specs.Files.{Holds}
 use Rattle.set_files.specs.Looked.{never, never₂}
 use Rattle.recovery.specs.Measured.{HasPages, Measured, Unsized}
 use Rattle.set_files.proofs.Looks.{looked_end, looked_then, looked_same, looked_refused, says_more}
@@ -18,12 +19,12 @@ returns-in_err-sizes g c =
     let file = file_of c.args.names.now in
     let old = c.loop-d.invariant in
     let same = looked_same _ _ _ _ _ old.0 in
-    let lt : c.loop-d.d < c.args.names.now.count = omega arith in
+    let lt : c.loop-d.d < how_many c.args.names.now = omega arith in
     record {
       looked = looked_refused _ _ _ _ _ _ _ failed (looked_then _ _ _ _ _ _ _ old.0 c.in_err-sizes.ensures.looked);
       told =
-          subst (λ (x : Result (List ℕ) Refusal). Measured (g.C.Card.meaning.holds c.args.card.now) file c.args.names.now.count x) (sym failed)
-          (says_more _ _ never₂ _ never _ (Unsized (g.C.Card.meaning.holds c.args.card.now) file c.args.names.now.count) (λ f k h. h) (λ f h. h)
+          subst (λ (x : Result (List ℕ) Refusal). Measured (g.C.Card.meaning.holds c.args.card.now) file (how_many c.args.names.now) x) (sym failed)
+          (says_more _ _ never₂ _ never _ (Unsized (g.C.Card.meaning.holds c.args.card.now) file (how_many c.args.names.now)) (λ f k h. h) (λ f h. h)
           (λ i h. unsized_at _ _ file _ c.loop-d.d _ i same lt old.1 h) c.in_err-sizes.ensures.told);
     }
 

@@ -3,7 +3,7 @@ use Rattle.card.specs.Meaning.{Meaning}
 use Rattle.steps.specs.Tasks.{Went}
 use Rattle.std.proofs.lemmas.Result.{err_from_is_err_and}
 use Rattle.refusal.specs.declared.fault.SetFault.{SetFault}
-use Rattle.set_files.specs.Files.{file_of}
+use Rattle.names.specs.Files.{file_of}
 use Rattle.settling.specs.Settled.{finish_tasks}
 use Rattle.journal.specs.declared.verdict.Sound.{Sound as SoundParts}
 use Rattle.steps.proofs.Went.{went_then}

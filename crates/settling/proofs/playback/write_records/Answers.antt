@@ -4,7 +4,7 @@ use Rattle.card.specs.Meaning.{Meaning}
 use Rattle.refusal.specs.declared.fault.SetFault.{SetFault}
 use Rattle.steps.specs.Tasks.{Went}
 use Rattle.steps.proofs.Went.{went_up}
-use Rattle.set_files.specs.Files.{file_of}
+use Rattle.names.specs.Files.{file_of}
 use Rattle.settling.specs.Settled.{up_to, record_task}
 use Rattle.settling.proofs.UpTo.{up_none, up_more, up_stop}
 use Rattle.settling.proofs.playback.write_records.Goals as goal

@@ -4,7 +4,7 @@ use Rattle.card.specs.Meaning.{Meaning, Bytes}
 use Rattle.refusal.specs.declared.fault.SetFault.{SetFault}
 use Rattle.steps.specs.Tasks.{Went}
 use Rattle.steps.proofs.Went.{went_up, went_value}
-use Rattle.set_files.specs.Files.{file_of}
+use Rattle.names.specs.Files.{file_of}
 use Rattle.settling.specs.Settled.{super_tasks}
 use Rattle.settling.proofs.Restored.{super_stop}
 use Rattle.settling.proofs.UpTo.{went_next}

@@ -4,7 +4,7 @@ use Rattle.card.specs.Meaning.{Meaning}
 use Rattle.refusal.specs.declared.fault.SetFault.{SetFault}
 use Rattle.steps.specs.Tasks.{Went}
 use Rattle.steps.proofs.Went.{went_up}
-use Rattle.set_files.specs.Files.{file_of}
+use Rattle.names.specs.Files.{how_many, file_of}
 use Rattle.settling.specs.Settled.{all_tasks}
 use Rattle.settling.proofs.UpTo.{up_none, up_more, up_stop}
 use Rattle.settling.proofs.Restored.{still_stands}
@@ -15,8 +15,8 @@ loop-d-init g c = λ seen all. up_none _ _ _
 
 pub restore-requires : goal.restore-requires
 restore-requires g c =
-    let lt : c.loop-d.d < c.args.names.now.count = omega arith in
-    let few : c.args.names.now.count ≤ 4 = omega arith in
+    let lt : c.loop-d.d < how_many c.args.names.now = omega arith in
+    let few : how_many c.args.names.now ≤ 4 = omega arith in
     let small : c.loop-d.d < 4 = omega arith in
     let seen = c.requires.0 in
     let all = c.requires.1 in
@@ -28,8 +28,8 @@ pub returns-in_err-restore : goal.returns-in_err-restore
 returns-in_err-restore g c =
     let p = err_from_is_err_and c.from_residual.result c.from_residual.ensures.1 in
     let failed = p.1 ∙ ap (λ (e : SetFault). Err e) p.2 in
-    let lt : c.loop-d.d < c.args.names.now.count = omega arith in
-    let few : c.args.names.now.count ≤ 4 = omega arith in
+    let lt : c.loop-d.d < how_many c.args.names.now = omega arith in
+    let few : how_many c.args.names.now ≤ 4 = omega arith in
     λ seen all.
     let old = c.loop-d.invariant seen all in
     let here = all c.loop-d.d lt in
@@ -38,8 +38,8 @@ returns-in_err-restore g c =
 
 pub loop-d-preserved : goal.loop-d-preserved
 loop-d-preserved g c =
-    let lt : c.loop-d.d < c.args.names.now.count = omega arith in
-    let few : c.args.names.now.count ≤ 4 = omega arith in
+    let lt : c.loop-d.d < how_many c.args.names.now = omega arith in
+    let few : how_many c.args.names.now ≤ 4 = omega arith in
     λ seen all.
     let old = c.loop-d.invariant seen all in
     let here = all c.loop-d.d lt in
@@ -48,5 +48,5 @@ loop-d-preserved g c =
 pub returns : goal.returns
 returns g c =
     let m : Meaning g.row.C.Denot = g.C.Card.meaning in
-    let end : c.loop-d.d ≡ c.args.names.now.count = omega arith in
+    let end : c.loop-d.d ≡ how_many c.args.names.now = omega arith in
     λ seen all. subst (λ (k : ℕ). Went m {V = Unit {0}} (all_tasks (file_of c.args.names.now) k seen) c.args.card.now (Ok tt) c.loop-d.card) end (c.loop-d.invariant seen all)

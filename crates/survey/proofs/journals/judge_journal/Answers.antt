@@ -4,7 +4,8 @@ use Rattle.journal.specs.Judged.{Judged}
 use Rattle.journal.specs.declared.verdict.Verdict.{Verdict}
 use Rattle.refusal.specs.declared.refusals.Refusal.{Refusal}
 use Rattle.refusal.specs.declared.step.Step.TheVariants.{R1}
-use Rattle.set_files.specs.Files.{Holds, file_of, ToldVerdict}
+use Rattle.names.specs.Files.{file_of}
+use Rattle.set_files.specs.Files.{Holds, ToldVerdict}
 use Rattle.survey.specs.Finds.{DamagedAt}
 use Rattle.survey.specs.Linked.{SuperLook, LookedAs}
 use Rattle.set_files.specs.Looked.{never}

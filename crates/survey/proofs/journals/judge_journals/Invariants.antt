@@ -1,6 +1,6 @@
 use Rattle.std.proofs.Common.{Ok}
 use Rattle.refusal.specs.declared.step.Step.TheVariants.{R1}
-use Rattle.set_files.specs.Files.{file_of}
+use Rattle.names.specs.Files.{file_of}
 use Rattle.set_files.specs.Looked.{Looked}
 use Rattle.survey.proofs.Surveyed.{LookedTo}
 use Rattle.survey.proofs.journals.judge_journals.Given as goal

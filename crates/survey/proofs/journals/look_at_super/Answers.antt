@@ -2,7 +2,7 @@ use Rattle.std.proofs.Common.{Err, sym, refl, ap, ◌∙◌, inl, inr}
 use Rattle.std.proofs.lemmas.Result.{err_from_is_err_and}
 use Rattle.std.proofs.lemmas.Bool.Decides.{not_from_Decides}
 use Rattle.refusal.specs.declared.refusals.Refusal.{Refusal}
-use Rattle.set_files.specs.Files.{file_of}
+use Rattle.names.specs.Files.{file_of}
 use Rattle.set_files.proofs.Looks.{looked_one, looked_up, told_card, not_absent, told_some, told_absent}
 use Rattle.survey.proofs.journals.look_at_super.Goals as goal
 

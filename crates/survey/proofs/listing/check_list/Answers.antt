@@ -3,7 +3,7 @@ use native.Mathlib.Nat.{sub-zero}
 use Rattle.card.specs.Meaning.{Name}
 use Rattle.super_journal.specs.Super.{LawfulNames, super_journal_bytes, lying_at}
 use Rattle.journal.specs.declared.verdict.Span.{Span}
-use Rattle.set_files.specs.Files.{file_of}
+use Rattle.names.specs.Files.{how_many, file_of}
 use Rattle.survey.specs.Finds.{NoNames, Listed, Strays}
 use Rattle.set_files.specs.Looked.{never}
 use Rattle.set_files.proofs.Looks.{looked_end, told_more}
@@ -25,7 +25,7 @@ returns g c =
     let list = c.in-Some.list in
     let b = c.args.bytes.now in
     let file = file_of c.args.names.now in
-    let n = c.args.names.now.count in
+    let n = how_many c.args.names.now in
     let files = g.C.Card.meaning.holds c.args.card.now in
     let ns = lying_at b (take (list.count - 0) list.places) in
     let same : take list.count list.places ≡ take (list.count - 0) list.places = ap (λ (k : ℕ). take k list.places) (sym (sub-zero list.count)) in

@@ -3,7 +3,8 @@ use Rattle.std.proofs.lemmas.Result.{err_from_is_err_and}
 use Rattle.card.specs.Meaning.{Name}
 use Rattle.super_journal.specs.Super.{Plain, lying_at}
 use Rattle.refusal.specs.declared.refusals.Refusal.{Refusal}
-use Rattle.set_files.specs.Files.{Holds, Present, file_of}
+use Rattle.names.specs.Files.{how_many, file_of}
+use Rattle.set_files.specs.Files.{Holds, Present}
 use Rattle.survey.specs.Finds.{JournalName, AllFine, Stray}
 use Rattle.set_files.specs.Looked.{Told, never, never₂}
 use Rattle.survey.proofs.Listings.{lying_here, length_lying, all_at}
@@ -30,7 +31,7 @@ returns-in_err-check_listed g c =
     let i = c.loop-i.i in
     let lt : i < length ps = omega arith in
     let file = file_of c.args.names.now in
-    let n = c.args.names.now.count in
+    let n = how_many c.args.names.now in
     let files = g.C.Card.meaning.holds c.args.card.now in
     let ns = lying_at b ps in
     let name : c.name_at.result.now ≡ get_or ns i [] = c.name_at.ensures ∙ sym (lying_here b ps i lt) in
@@ -62,7 +63,7 @@ loop-i-preserved g c =
     let i = c.loop-i.i in
     let lt : i < length ps = omega arith in
     let file = file_of c.args.names.now in
-    let n = c.args.names.now.count in
+    let n = how_many c.args.names.now in
     let files = g.C.Card.meaning.holds c.args.card.now in
     let ns = lying_at b ps in
     let name : c.name_at.result.now ≡ get_or ns i [] = c.name_at.ensures ∙ sym (lying_here b ps i lt) in

@@ -4,7 +4,8 @@ use Rattle.std.proofs.lemmas.Result.{err_from_is_err_and}
 use Rattle.std.proofs.lemmas.Option.{MatchOption-at_none, MatchOption-at_some}
 use Rattle.card.specs.Meaning.{Bytes, Name}
 use Rattle.refusal.specs.declared.refusals.Refusal.{Refusal}
-use Rattle.set_files.specs.Files.{Holds, file_of}
+use Rattle.names.specs.Files.{how_many, file_of}
+use Rattle.set_files.specs.Files.{Holds}
 use Rattle.survey.specs.Finds.{NoNames, Listed, Strays}
 use Rattle.set_files.specs.Looked.{never}
 use Rattle.set_files.proofs.Looks.{looked_then, looked_same, looked_up, told_card, told_more}
@@ -30,7 +31,7 @@ pub returns : goal.returns
 returns g c =
     let t = c.in_ok-length.ensures.told in
     let s = MatchOption-at_some _ _ c.in-Some.length c.in-Some.is t.2 in
-    let n = c.args.names.now.count in
+    let n = how_many c.args.names.now in
     let file = file_of c.args.names.now in
     let files = g.C.Card.meaning.holds c.args.card.now in
     let first = c.in_ok-length.ensures.looked in

@@ -2,7 +2,8 @@ use Rattle.std.proofs.Common.{◌≡◌, ◌≤◌, length, Some, Err, sym, refl
 use Rattle.std.proofs.lemmas.Result.{err_from_is_err_and, IfOk-from_err}
 use Rattle.refusal.specs.declared.fault.SetFault.{SetFault}
 use Rattle.refusal.specs.declared.step.Step.TheVariants.{R1}
-use Rattle.set_files.specs.Files.{Holds, file_of}
+use Rattle.names.specs.Files.{file_of}
+use Rattle.set_files.specs.Files.{Holds}
 use Rattle.set_files.proofs.Looks.{looked_one, looked_then, looked_same, looked_failed, told_some}
 use Rattle.survey.proofs.Listings.{super_read}
 use Rattle.survey.proofs.listing.read_super.Goals as goal

@@ -3,7 +3,8 @@ use Rattle.std.proofs.lemmas.Result.{err_from_is_err_and}
 use Rattle.card.specs.Meaning.{Bytes, Name}
 use Rattle.refusal.specs.declared.refusals.Refusal.{Refusal}
 use Rattle.survey.specs.declared.report.Found.{Found}
-use Rattle.set_files.specs.Files.{Holds, Present, file_of}
+use Rattle.names.specs.Files.{how_many, file_of}
+use Rattle.set_files.specs.Files.{Holds, Present}
 use Rattle.survey.specs.Finds.{DamagedAt, FirstAbsent, Damage, Stranger, Finds, NoNames, Listed, Strays}
 use Rattle.survey.specs.Linked.{AllLooked}
 use Rattle.survey.specs.Seen.{Seen, SeenAs}
@@ -16,7 +17,7 @@ returns-in_err-journals g c =
     let p = err_from_is_err_and c.from_residual-in_err-journals.result c.from_residual-in_err-journals.ensures.1 in
     let failed = p.1 ∙ ap (λ (e : Refusal). Err e) p.2 in
     let file = file_of c.args.names.now in
-    let n = c.args.names.now.count in
+    let n = how_many c.args.names.now in
     let files = g.C.Card.meaning.holds c.args.card.now in
     let first = c.in_ok-all_present.ensures in
     let same = looked_same _ _ _ _ _ first.looked in
@@ -42,7 +43,7 @@ returns-in_err-journals g c =
 pub returns-in-Some : goal.returns-in-Some
 returns-in-Some g c =
     let file = file_of c.args.names.now in
-    let n = c.args.names.now.count in
+    let n = how_many c.args.names.now in
     let files = g.C.Card.meaning.holds c.args.card.now in
     let first = c.in_ok-all_present.ensures in
     let same = looked_same _ _ _ _ _ first.looked in
@@ -70,7 +71,7 @@ returns-in-Some g c =
 pub returns-in_default-first_linked : goal.returns-in_default-first_linked
 returns-in_default-first_linked g c =
     let file = file_of c.args.names.now in
-    let n = c.args.names.now.count in
+    let n = how_many c.args.names.now in
     let files = g.C.Card.meaning.holds c.args.card.now in
     let first = c.in_ok-all_present.ensures in
     let same = looked_same _ _ _ _ _ first.looked in
@@ -91,7 +92,7 @@ returns-in_default-first_linked g c =
 pub check_super-requires : goal.check_super-requires
 check_super-requires g c =
     let file = file_of c.args.names.now in
-    let n = c.args.names.now.count in
+    let n = how_many c.args.names.now in
     let files = g.C.Card.meaning.holds c.args.card.now in
     let first = c.in_ok-all_present.ensures in
     let same = looked_same _ _ _ _ _ first.looked in
@@ -108,7 +109,7 @@ returns-in_err-check_super g c =
     let p = err_from_is_err_and c.from_residual-in_err-check_super.result c.from_residual-in_err-check_super.ensures.1 in
     let failed = p.1 ∙ ap (λ (e : Refusal). Err e) p.2 in
     let file = file_of c.args.names.now in
-    let n = c.args.names.now.count in
+    let n = how_many c.args.names.now in
     let files = g.C.Card.meaning.holds c.args.card.now in
     let first = c.in_ok-all_present.ensures in
     let same = looked_same _ _ _ _ _ first.looked in
@@ -156,7 +157,7 @@ returns-in_err-check_super g c =
 pub returns : goal.returns
 returns g c =
     let file = file_of c.args.names.now in
-    let n = c.args.names.now.count in
+    let n = how_many c.args.names.now in
     let files = g.C.Card.meaning.holds c.args.card.now in
     let first = c.in_ok-all_present.ensures in
     let same = looked_same _ _ _ _ _ first.looked in

@@ -1,7 +1,8 @@
 use Rattle.std.proofs.Common.{◌≡◌, ℕ, None, Err, sym, refl, ap, ◌∙◌, subst, inr, arith, below_more}
 use Rattle.std.proofs.lemmas.Result.{err_from_is_err_and}
 use Rattle.refusal.specs.declared.refusals.Refusal.{Refusal}
-use Rattle.set_files.specs.Files.{Holds, Present, file_of}
+use Rattle.names.specs.Files.{file_of}
+use Rattle.set_files.specs.Files.{Holds, Present}
 use Rattle.set_files.proofs.Looks.{looked_end, looked_then, looked_one, looked_same, looked_up, told_card, told_some, told_absent}
 use Rattle.survey.proofs.presence.all_present.Goals as goal
 
