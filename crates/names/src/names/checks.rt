@@ -19,7 +19,7 @@ const FILES: usize = 9;
 fn is_short(name: &[u8]) -> bool
     ensures { result ≡ length_ok name.now }
 {
-    name.len() >= 1 && name.len() <= NAME_LIMIT
+    matches!(name.len(), 1..=NAME_LIMIT)
 }
 
 /// Whether a byte may stand in a name.

@@ -40,20 +40,15 @@ impl Names {
     pub fn database(&self, i: usize) -> Option<&[u8]>
         ensures { option_map (λ x. x.now) result ≡ (if nat_lt i (how_many self.now) then Some (listed (names_of self.now) i) else None) }
     {
-        if i >= self.count() {
-            return None;
-        }
-        Some(self.list.as_slice()[i].as_slice())
+        Some(self.list.as_slice().get(i)?.as_slice())
     }
 
     /// The name of a database's journal.
     pub fn journal(&self, i: usize) -> Option<FileName>
         ensures { MatchOption result (how_many self.now ≤ i) (λ f. (i < how_many self.now) × (f.bytes.items ≡ listed (names_of self.now) i ++ journal_ending)) }
     {
-        if i >= self.count() {
-            return None;
-        }
-        Some(FileName::ending(self.list.as_slice()[i].as_slice(), &JOURNAL_ENDING))
+        let name = self.list.as_slice().get(i)?;
+        Some(FileName::ending(name.as_slice(), &JOURNAL_ENDING))
     }
 
     /// The name of the file of that number: 0 to 3 a database, 4 to 7 its journal, 8 the super-journal.
