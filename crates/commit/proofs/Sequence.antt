@@ -6,9 +6,10 @@ use Rattle.std.specs.List.{AllByRecursion}
 use Rattle.card.specs.Meaning.{Meaning, Bytes, Name}
 use Rattle.card.specs.Calls.{delete}
 use Rattle.card.specs.Runs.{Act}
+use Rattle.names.specs.Files.{how_many, file_of}
 use Rattle.names.specs.Names.{named}
 use Rattle.names.specs.declared.names.Names.{Names}
-use Rattle.names.proofs.Files.{a_database, the_super, named_apart}
+use Rattle.names.proofs.Files.{database_is_file, super_is_file, files_apart}
 use Rattle.pager.specs.declared.memory.Memory.{Memory}
 use Rattle.refusal.specs.declared.fault.SetFault.{SetFault}
 use Rattle.refusal.specs.declared.step.Step.TheVariants.{C4}
@@ -33,7 +34,7 @@ module _ {C : Type 0} (m : Meaning C) (w : Work) (nonce : ℕ) (base : List ℕ)
   change = change_of stored base w.memory.now
 
   abbrev chs : List Change
-  chs = changes stored base w.memory.now w.names.now.count
+  chs = changes stored base w.memory.now (how_many w.names.now)
 
   abbrev opening : List Task
   opening = cond (several w) (naming_tasks file (journals w)) []
@@ -83,7 +84,7 @@ module _ {C : Type 0} (m : Meaning C) (w : Work) (nonce : ℕ) (base : List ℕ)
   -- the journals were made, of databases that hold so
   abbrev pub Making : Result (Unit {0}) SetFault → C → C → Type 0
   Making r c₁ c₂ =
-      (s : ℕ → Bytes) → ((k : ℕ) → k < w.names.now.count → contents (m.holds c₁ (file k)) ≡ s k) →
+      (s : ℕ → Bytes) → ((k : ℕ) → k < how_many w.names.now → contents (m.holds c₁ (file k)) ≡ s k) →
       Went m (for_each (λ d. journal_tasks file nonce (super_of file (several w)) (change_of s base w.memory.now d)) (listed w)) c₁ r c₂
 
   -- the pages were written
@@ -91,14 +92,14 @@ module _ {C : Type 0} (m : Meaning C) (w : Work) (nonce : ℕ) (base : List ℕ)
   Writing r c₂ c₃ = (s : ℕ → Bytes) (b : List ℕ) → Went m (for_each (λ d. change_tasks file (change_of s b w.memory.now d)) (listed w)) c₂ r c₃
 
   -- a database's name is not that of the super-journal
-  not_super : (k : ℕ) → k < w.names.now.count → file k ≡ file 8 → ⊥
+  not_super : (k : ℕ) → k < how_many w.names.now → file k ≡ file 8 → ⊥
   not_super k lt =
       let names : Names = w.names.now in
-      named_apart names.rows names.lens names.count k 8 names.apart (a_database lt) the_super (λ e. omega (arith, names.few))
+      files_apart names k 8 (database_is_file (how_many names) k lt) (super_is_file (how_many names)) (λ e. omega (arith, names.few))
 
   module _ (c₁ : C) (opened : Went m {V = Unit {0}} opening c (Ok tt) c₁) where
     -- the databases hold what they held
-    kept : (k : ℕ) → k < w.names.now.count → contents (m.holds c₁ (file k)) ≡ stored k
+    kept : (k : ℕ) → k < how_many w.names.now → contents (m.holds c₁ (file k)) ≡ stored k
     kept k lt = ap contents (spared_holds m (file k) opening c c₁ (spared (several w)) opened.ended)
       where
         spared : (b : Bool) → AllByRecursion (Spares m (file k)) (cond b (naming_tasks file (journals w)) [])
@@ -138,7 +139,7 @@ module _ {C : Type 0} (m : Meaning C) (w : Work) (nonce : ℕ) (base : List ℕ)
   -- the same, by the names and the memory that the work was made of
   pub as_given :
       (names : Names) (mem : Memory) (r : Result ℕ SetFault) (c' : C) → w.names.now ≡ names → w.memory.now ≡ mem → Ends r c' →
-      Committed m (named names.rows names.lens names.count) nonce (changes (λ d. contents (m.holds c (named names.rows names.lens names.count d))) base mem names.count) c r c'
+      Committed m (file_of names) nonce (changes (λ d. contents (m.holds c (file_of names d))) base mem (how_many names)) c r c'
   as_given names mem r c' en em e =
-      subst (λ (x : Memory). Committed m (named names.rows names.lens names.count) nonce (changes (λ d. contents (m.holds c (named names.rows names.lens names.count d))) base x names.count) c r c') em
+      subst (λ (x : Memory). Committed m (file_of names) nonce (changes (λ d. contents (m.holds c (file_of names d))) base x (how_many names)) c r c') em
       (subst (λ (x : Names). Committed m (named x.rows x.lens x.count) nonce (changes (λ d. contents (m.holds c (named x.rows x.lens x.count d))) base w.memory.now x.count) c r c') en e)

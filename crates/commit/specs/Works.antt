@@ -1,17 +1,17 @@
 -- What a work of a commit says of it.
 use Rattle.std.specs.Prelude.{ℕ, ◌+◌, Bool, List, map, length, nat_le}
 use Rattle.card.specs.Meaning.{Name}
-use Rattle.names.specs.Names.{named}
+use Rattle.names.specs.Files.{how_many, file_of}
 use Rattle.journaling.specs.Changes.{changed_list}
 use Rattle.commit.specs.declared.work.Work.{Work}
 
 -- the names of the files, by number
 abbrev pub files : Work → ℕ → Name
-files w = named w.names.now.rows w.names.now.lens w.names.now.count
+files w = file_of w.names.now
 
 -- the databases that change, ascending
 abbrev pub listed : Work → List ℕ
-listed w = changed_list w.memory.now w.names.now.count
+listed w = changed_list w.memory.now (how_many w.names.now)
 
 -- the names of their journals
 abbrev pub journals : Work → List Name

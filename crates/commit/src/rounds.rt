@@ -1,6 +1,7 @@
 // Rounds through the databases that a commit changes, in order.
 ghost use Rattle.std.specs.Prelude.{◌≡◌, ℕ, ◌+◌, ◌<◌, List, [], ◌∷◌};
 ghost use Rattle.card.specs.Calls.Op.{delete as deletes};
+ghost use Rattle.names.specs.Files.{how_many};
 ghost use Rattle.refusal.specs.declared.step.Step.TheVariants.{C4};
 ghost use Rattle.steps.specs.Tasks.{Went};
 ghost use Rattle.journaling.specs.Plan.{for_each, call, change_tasks, journal_tasks, super_of};
@@ -26,7 +27,7 @@ impl Work<'_> {
         nonce: u32,
         buffer: &mut [u8; JOURNAL_LIMIT],
     ) -> Result<(), SetFault>
-        ensures { (stored : ℕ → List ℕ) → ((k : ℕ) → k < self.now.names.now.count → contents (C.Card.meaning.holds card.old (files self.now k)) ≡ stored k) → Went C.Card.meaning (for_each (λ d. journal_tasks (files self.now) nonce (super_of (files self.now) (several self.now)) (change_of stored sizes.now.rows self.now.memory.now d)) (listed self.now)) card.old result card.new }
+        ensures { (stored : ℕ → List ℕ) → ((k : ℕ) → k < how_many self.now.names.now → contents (C.Card.meaning.holds card.old (files self.now k)) ≡ stored k) → Went C.Card.meaning (for_each (λ d. journal_tasks (files self.now) nonce (super_of (files self.now) (several self.now)) (change_of stored sizes.now.rows self.now.memory.now d)) (listed self.now)) card.old result card.new }
     {
         let journals = Journals {
             names: self.names,

@@ -1,6 +1,7 @@
 // What a commit works by: the names of the files, the memory of the transaction, and the databases that
 // have a changed page.
 ghost use Rattle.std.specs.Prelude.{◌≡◌, ◌<◌, ◌≤◌, length as count_of, EachIndex, slice_index};
+ghost use Rattle.names.specs.Files.{how_many};
 ghost use Rattle.journaling.specs.Changes.{changed_list};
 
 use few::Few;
@@ -14,7 +15,7 @@ pub struct Work<'a> {
     pub names: &'a Names,
     pub memory: &'a Memory,
     changed: Few<usize, DATABASES>,
-    ghost listed: { changed.items ≡ changed_list memory.now names.now.count },
+    ghost listed: { changed.items ≡ changed_list memory.now (how_many names.now) },
 }
 
 /// Those of the first databases that have a changed page, in order.
@@ -50,7 +51,7 @@ impl<'a> Work<'a> {
     pub fn changed(&self) -> &[usize]
         ensures is { result.now ≡ listed self.now }
         ensures few { count_of result.now ≤ 4 }
-        ensures named { EachIndex result.now (λ k. slice_index result.now k < self.now.names.now.count) }
+        ensures named { EachIndex result.now (λ k. slice_index result.now k < how_many self.now.names.now) }
         ensures known { EachIndex result.now (λ k. slice_index result.now k < self.now.memory.now.count) }
     {
         self.changed.as_slice()

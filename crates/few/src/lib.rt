@@ -76,6 +76,16 @@ impl<T: Copy, const N: usize> Few<T, N> {
         self.used += 1;
     }
 
+    /// Puts the values at the end.
+    pub fn extend_from_slice(&mut self, values: &[T])
+        requires { count self.old.items + count values.now ≤ N }
+        ensures { self.new.items ≡ self.old.items ++ values.now }
+    {
+        for value in values {
+            self.push(*value);
+        }
+    }
+
     /// Puts a value in the place of another.
     pub fn set(&mut self, i: usize, value: T)
         requires { i < count self.old.items }

@@ -4,10 +4,11 @@ use Rattle.std.proofs.lemmas.List.{take_at}
 use Rattle.card.specs.Meaning.{Meaning, Bytes, Name}
 use Rattle.card.specs.Calls.{create}
 use Rattle.journal.specs.Format.{PageRecord, encode}
+use Rattle.names.specs.Files.{how_many}
 use Rattle.journal_writer.specs.OnCard.{store_acts}
 use Rattle.journal_writer.specs.Written.{Filled, originals, journal_in}
 use Rattle.names.specs.declared.names.Names.{Names}
-use Rattle.names.proofs.Files.{a_database, a_journal, named_apart}
+use Rattle.names.proofs.Files.{database_is_file, journal_is_file, files_apart}
 use Rattle.refusal.specs.declared.fault.SetFault.{SetFault}
 use Rattle.refusal.specs.declared.step.Step.TheVariants.{C2}
 use Rattle.steps.specs.Tasks.{Task, tasks, Went}
@@ -48,14 +49,14 @@ module _ {C : Type 0} (m : Meaning C) (j : Journals) (d size : ℕ) (c c₁ : C)
     pub not_read : (c₂ : C) (f : SetFault) → Went m {V = Unit {0}} reads c₁ (Err f) c₂ → Made (Err f) c₂
     not_read c₂ f w = went_then m made (reads ++ stores) c c₁ c₂ tt (Err f) created (went_stop m reads stores c₁ c₂ f w)
 
-    module _ (c₂ : C) (old new : Bytes) (n : ℕ) (listed : d < j.names.now.count) (read : Went m {V = Unit {0}} reads c₁ (Ok tt) c₂)
+    module _ (c₂ : C) (old new : Bytes) (n : ℕ) (listed : d < how_many j.names.now) (read : Went m {V = Unit {0}} reads c₁ (Ok tt) c₂)
         (lies : RecordedIn (contents (m.holds c₁ (file d))) ch.recorded (Ok tt) old)
         (filled : Filled old j.nonce size ch.recorded (super_of file j.linked) (Ok n) new) where
       -- the database holds what it held
       held : m.holds c₁ (file d) ≡ m.holds c (file d)
       held =
           let names : Names = j.names.now in
-          let apart = named_apart names.rows names.lens names.count d (4 + d) names.apart (a_database listed) (a_journal listed) (λ e. omega arith) in
+          let apart = named_apart names.rows names.lens (how_many names) d (4 + d) names.apart (a_database listed) (a_journal listed) (λ e. omega arith) in
           ((one_worked m c c₁ (record { name = file (4 + d); op = create }) created.ended).others (file d) apart).holds
 
       same_journal : journal_in old j.nonce size ch.recorded (super_of file j.linked) ≡ journal_of j.nonce (super_of file j.linked) ch

@@ -1,5 +1,6 @@
 // The journal of one database: its originals read, the bytes filled around them, and all stored.
 ghost use Rattle.std.specs.Prelude.{◌≡◌, ◌<◌, ◌≤◌, true, Ok};
+ghost use Rattle.names.specs.Files.{how_many};
 ghost use Rattle.journal_writer.specs.Written.{Filled, pages_lawful};
 ghost use Rattle.steps.specs.Tasks.{Went};
 ghost use Rattle.journaling.specs.Plan.{journal_tasks, super_of};
@@ -48,7 +49,7 @@ impl Journals<'_> {
         size: u32,
         buffer: &mut [u8; JOURNAL_LIMIT],
     ) -> Result<(), SetFault>
-        requires listed { database < self.now.names.now.count }
+        requires listed { database < how_many self.now.names.now }
         requires known { database < self.now.memory.now.count }
         requires some { 1 ≤ size }
         requires small { size ≤ 4096 }

@@ -2,7 +2,9 @@
 use Rattle.std.proofs.Common.{◌≡◌, ℕ, ◌+◌, ◌-◌, ◌<◌, ◌≤◌, Bool, true, false, cond, ◌&&◌, ◌||◌, eqb, ltb, leb, ◌⊎◌, List, [], ◌++◌, length, sym, refl, ap, ◌∙◌, ap₂, inl, inr, ⊎_elim, arith, length-append}
 use mathlib.Core.Logic.{∥∥₁_elim}
 use Rattle.std.proofs.lemmas.Bool.{cases_lt, le-leb, lt-ltb, le-ltb, ltb-true, leb-true, eqb-true, or_cases, and_parts, cond-true, cond-false}
-use Rattle.names.specs.Names.{Bytes, is_file, file_name, name_at, named, journal_ending, super_ending, Apart}
+use Rattle.names.specs.declared.names.Names.{Names}
+use Rattle.names.specs.Files.{names_of, how_many, file_of}
+use Rattle.names.specs.Names.{Bytes, is_file, file_name, listed, named, journal_ending, super_ending, Apart}
 
 -- a file of a list of n databases is one of them, a journal of one of them, or the super-journal
 pub ways : (n k : ℕ) → is_file n k ≡ true → (k < n) ⊎ (((4 ≤ k) × (k < 4 + n)) ⊎ (k ≡ 8))
@@ -46,11 +48,11 @@ module _ (name : ℕ → Bytes) (k : ℕ) where
   name_super low = cond-false _ _ _ (le-ltb k 4 (omega arith)) ∙ cond-false _ _ _ (le-ltb k 8 low)
 
 -- a file that the list has goes by its name
-pub named_file : (rows : List Bytes) (lens : List ℕ) (n k : ℕ) → is_file n k ≡ true → named rows lens n k ≡ file_name (name_at rows lens) k
+pub named_file : (names : List Bytes) (k : ℕ) → is_file (length names) k ≡ true → named names k ≡ file_name (listed names) k
 unfolding named
-named_file rows lens n k is = ap (λ (b : Bool). cond b (file_name (name_at rows lens) k) []) is
+named_file names k is = ap (λ (b : Bool). cond b (file_name (listed names) k) []) is
 
-super_is_file : (n : ℕ) → is_file n 8 ≡ true
+pub super_is_file : (n : ℕ) → is_file n 8 ≡ true
 super_is_file n = by (ltb 8 n) (leb 4 8 && ltb 8 (4 + n))
   where
     by : (a b : Bool) → (a || (b || true)) ≡ true
@@ -58,10 +60,10 @@ super_is_file n = by (ltb 8 n) (leb 4 8 && ltb 8 (4 + n))
     by false true = refl
     by false false = refl
 
-database_is_file : (n k : ℕ) → k < n → is_file n k ≡ true
+pub database_is_file : (n k : ℕ) → k < n → is_file n k ≡ true
 database_is_file n k lt = ap (λ (b : Bool). b || ((leb 4 k && ltb k (4 + n)) || eqb k 8)) (lt-ltb k n lt)
 
-journal_is_file : (n k : ℕ) → k < n → is_file n (4 + k) ≡ true
+pub journal_is_file : (n k : ℕ) → k < n → is_file n (4 + k) ≡ true
 journal_is_file n k lt = by (ltb (4 + k) n) (le-leb 4 (4 + k) (omega arith)) (lt-ltb (4 + k) (4 + n) (omega arith))
   where
     by : (a : Bool) → leb 4 (4 + k) ≡ true → ltb (4 + k) (4 + n) ≡ true → (a || ((leb 4 (4 + k) && ltb (4 + k) (4 + n)) || eqb (4 + k) 8)) ≡ true
@@ -69,35 +71,16 @@ journal_is_file n k lt = by (ltb (4 + k) n) (le-leb 4 (4 + k) (omega arith)) (lt
     by false p q = ap₂ (λ (x y : Bool). (x && y) || eqb (4 + k) 8) p q
 
 -- the super-journal's name is long enough
-pub named_super : (rows : List Bytes) (lens : List ℕ) (n : ℕ) → 3 ≤ length (named rows lens n 8)
-named_super rows lens n =
-    let e = named_file rows lens n 8 (super_is_file n) ∙ name_super (name_at rows lens) 8 (omega arith) in
-    omega (arith, ap length e, length-append (name_at rows lens 0) super_ending)
-
--- files of a list: the databases, their journals, and the super-journal
-pub data Listed (n : ℕ) : ℕ → Type 0 where
-  a_database : {k : ℕ} → k < n → Listed n k
-  a_journal : {k : ℕ} → k < n → Listed n (4 + k)
-  the_super : Listed n 8
-
-pub listed_file : (n k : ℕ) → Listed n k → is_file n k ≡ true
-listed_file n k (a_database lt) = database_is_file n k lt
-listed_file n k (a_journal {k = i} lt) = journal_is_file n i lt
-listed_file n k the_super = super_is_file n
+pub super_long : (names : List Bytes) → 3 ≤ length (named names 8)
+super_long names = omega (arith, ap length (named_file names 8 (super_is_file (length names)) ∙ name_super (listed names) 8 (omega arith)), length-append (listed names 0) super_ending)
 
 -- two files of a list have two names
-pub named_apart : (rows : List Bytes) (lens : List ℕ) (n j k : ℕ) → ∥ Apart (name_at rows lens) n ∥₁ → Listed n j → Listed n k → (j ≡ k → ⊥) → named rows lens n j ≡ named rows lens n k → ⊥
-named_apart rows lens n j k apart lj lk ne e = ∥∥₁_elim apart (λ x y. elim x [ ]) (λ a. by a (cases_lt j k))
+pub files_apart : (s : Names) (j k : ℕ) → is_file (how_many s) j ≡ true → is_file (how_many s) k ≡ true → (j ≡ k → ⊥) → file_of s j ≡ file_of s k → ⊥
+files_apart s j k ij ik ne e = ∥∥₁_elim s.apart (λ x y. elim x [ ]) (λ a. by a (cases_lt j k))
   where
-    ij : is_file n j ≡ true
-    ij = listed_file n j lj
+    same : file_name (listed (names_of s)) j ≡ file_name (listed (names_of s)) k
+    same = sym (named_file (names_of s) j ij) ∙ e ∙ named_file (names_of s) k ik
 
-    ik : is_file n k ≡ true
-    ik = listed_file n k lk
-
-    same : file_name (name_at rows lens) j ≡ file_name (name_at rows lens) k
-    same = sym (named_file rows lens n j ij) ∙ e ∙ named_file rows lens n k ik
-
-    by : Apart (name_at rows lens) n → (j < k) ⊎ (k ≤ j) → ⊥
+    by : Apart (names_of s) → (j < k) ⊎ (k ≤ j) → ⊥
     by a (inl lt) = a j k (ij, ik, lt, same)
     by a (inr ge) = a k j (ik, ij, omega (arith, ne), sym same)

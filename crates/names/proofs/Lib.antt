@@ -1,3 +1,3 @@
-mod Texts
-mod Rows
 pub mod Files
+mod Texts
+mod Ranges

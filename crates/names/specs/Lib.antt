@@ -1,2 +1,4 @@
 pub mod Names
+pub mod Files
+pub mod Numbered
 pub mod Refused

@@ -1,7 +1,9 @@
 -- Checked lists of names, and the names of the files that go with them.
 -- Files go by number: 0 to 3 a database, 4 to 7 its journal, 8 the super-journal.
-use Rattle.std.specs.Prelude.{◌≡◌, ℕ, ◌+◌, ◌-◌, ◌<◌, ◌≤◌, Bool, true, cond, ◌&&◌, ◌||◌, List, [], ◌∷◌, ◌++◌, map, length, take, ◌==◌, nat_le, nat_lt, slice_index, slice_index_or}
+use Rattle.std.specs.Prelude.{◌≡◌, ℕ, ◌+◌, ◌-◌, ◌<◌, Bool, true, cond, ◌&&◌, ◌||◌, List, [], ◌∷◌, ◌++◌, map, length, ◌==◌, nat_le, nat_lt, slice_index_or}
+use Rattle.std.specs.List.{list_all}
 use Rattle.std.specs.Borrow.{Bor}
+use Rattle.few.specs.Items.{Few}
 
 abbrev pub Bytes : Type 0
 Bytes = List ℕ
@@ -26,9 +28,8 @@ abbrev pub printable : ℕ → Bool
 printable b = nat_le 32 b && nat_le b 126
 
 -- each byte of a name is printable
-unfoldable pub bytes_ok : Bytes → Bool
-bytes_ok [] = true
-bytes_ok (b ∷ w) = printable b && bytes_ok w
+abbrev pub bytes_ok : Bytes → Bool
+bytes_ok w = list_all printable w
 
 -- with n databases there is a file of this number
 abbrev pub is_file : ℕ → ℕ → Bool
@@ -38,41 +39,35 @@ is_file n k = nat_lt k n || ((nat_le 4 k && nat_lt k (4 + n)) || k == 8)
 unfoldable pub file_name : (ℕ → Bytes) → ℕ → Bytes
 file_name name k = cond (nat_lt k 4) (name k) (cond (nat_lt k 8) (name (k - 4) ++ journal_ending) (name 0 ++ super_ending))
 
--- two files have one name
-abbrev pub Alike : (ℕ → Bytes) → ℕ → ℕ → ℕ → Type 0
-Alike name n j k = (is_file n j ≡ true) × (is_file n k ≡ true) × (j < k) × (file_name name j ≡ file_name name k)
-
--- the names of all files differ
-abbrev pub Apart : (ℕ → Bytes) → ℕ → Type 0
-Apart name n = (j k : ℕ) → Alike name n j k → ⊥
-
--- the name of the database i, as the rows of a record hold it
-unfoldable pub name_at : List Bytes → List ℕ → ℕ → Bytes
-name_at rows lens i = take (slice_index lens i) (slice_index_or rows i [])
-
--- each of the first n has 1 to 24 bytes
-abbrev pub SomeBytes : List ℕ → ℕ → Type 0
-SomeBytes lens n = (i : ℕ) → i < n → 1 ≤ slice_index lens i
-
-abbrev pub FewBytes : List ℕ → ℕ → Type 0
-FewBytes lens n = (i : ℕ) → i < n → slice_index lens i ≤ 24
-
--- each of the first n is printable
-abbrev pub Plain : List Bytes → List ℕ → ℕ → Type 0
-Plain rows lens n = (i : ℕ) → i < n → bytes_ok (name_at rows lens i) ≡ true
-
 -- the name at a place of a list
 abbrev pub listed : List Bytes → ℕ → Bytes
 listed names i = slice_index_or names i []
+
+-- a test is true of each name
+abbrev pub Each : (Bytes → Bool) → List Bytes → Type 0
+Each good names = (i : ℕ) → i < length names → good (listed names i) ≡ true
+
+-- two files have one name
+abbrev pub Alike : List Bytes → ℕ → ℕ → Type 0
+Alike names j k =
+    (is_file (length names) j ≡ true) × (is_file (length names) k ≡ true) × (j < k) × (file_name (listed names) j ≡ file_name (listed names) k)
+
+-- the names of all files differ
+abbrev pub Apart : List Bytes → Type 0
+Apart names = (j k : ℕ) → Alike names j k → ⊥
 
 -- what a list of references refers to
 abbrev pub texts : List (Bor Bytes) → List Bytes
 texts rs = map (λ r. r.now) rs
 
--- the name of the file of this number in a list of n databases; empty if there is none
-unfoldable pub named : List Bytes → List ℕ → ℕ → ℕ → Bytes
-named rows lens n k = cond (is_file n k) (file_name (name_at rows lens) k) []
+-- the names of a fixed list
+abbrev pub held : List (Few ℕ) → List Bytes
+held ws = map (λ w. w.items) ws
+
+-- the name of the file of this number; empty if there is none
+unfoldable pub named : List Bytes → ℕ → Bytes
+named names k = cond (is_file (length names) k) (file_name (listed names) k) []
 
 -- the name is that of a journal of the list
-abbrev pub JournalOf : List Bytes → List ℕ → ℕ → Bytes → Type 0
-JournalOf rows lens n w = (i : ℕ) × (i < n) × (named rows lens n (4 + i) ≡ w)
+abbrev pub JournalOf : List Bytes → Bytes → Type 0
+JournalOf names w = (i : ℕ) × (i < length names) × (named names (4 + i) ≡ w)

@@ -1,10 +1,12 @@
 // Checked lists of names: the databases of a set, and the names of all files that go with them.
 #![tactic(auto)]
 
+mod file;
 mod file_name;
 mod list_refusal;
 mod names;
 
+pub use file::SUPER_JOURNAL;
 pub use file_name::FileName;
 pub use list_refusal::ListRefusal;
-pub use names::{DATABASES, Names, SUPER_JOURNAL, checked};
+pub use names::{DATABASES, Names, checked};

@@ -16,6 +16,7 @@ pub enum ListRefusal {
 }
 
 impl ListRefusal {
+    // By cases, since a variant that carries a value has no number that a cast could give.
     /// The number by which the refusal is told.
     pub fn number(self) -> u8
         ensures { result ≡ list_number self }

@@ -1,7 +1,7 @@
 // The lengths of the databases.
 ghost use Rattle.std.specs.Prelude.{◌≡◌, ℕ, Some, None, MatchOption};
 ghost use Rattle.refusal.specs.declared.step.Step.TheVariants.{R4};
-ghost use Rattle.set_files.specs.Files.{file_of};
+ghost use Rattle.names.specs.Files.{how_many, file_of};
 ghost use Rattle.set_files.specs.Looked.{Looked, Told, dropped, never, never₂};
 ghost use Rattle.recovery.specs.Measured.{Pages, HasPages, NoPages, Measured};
 
@@ -32,7 +32,7 @@ fn measure_one<C: Card>(card: &mut C, names: &Names, d: usize) -> Result<u32, Re
 /// How many pages each database has; 1 for one that the set has not.
 pub(crate) fn measure<C: Card>(card: &mut C, names: &Names) -> Result<[u32; DATABASES], Refusal>
     ensures looked { Looked C.Card.meaning R4 (file_of names.now) card.old (dropped result) card.new }
-    ensures told { Measured (C.Card.meaning.holds card.old) (file_of names.now) names.now.count result }
+    ensures told { Measured (C.Card.meaning.holds card.old) (file_of names.now) (how_many names.now) result }
 {
     let mut sizes = [1u32; DATABASES];
     let kept = &mut sizes[0..names.count()];

@@ -1,5 +1,5 @@
 // The whole of a recovery.
-ghost use Rattle.set_files.specs.Files.{file_of};
+ghost use Rattle.names.specs.Files.{how_many, file_of};
 ghost use Rattle.recovery.specs.Recovered.{Recovered};
 
 use crate::lengths::measure;
@@ -19,7 +19,7 @@ pub fn recover<C: Card>(
     names: &Names,
     buffer: &mut [u8; JOURNAL_LIMIT],
 ) -> Result<Recovery, Refusal>
-    ensures { Recovered C.Card.meaning (file_of names.now) names.now.count card.old result card.new }
+    ensures { Recovered C.Card.meaning (file_of names.now) (how_many names.now) card.old result card.new }
 {
     card.power();
     let found = survey(card, names, buffer)?;

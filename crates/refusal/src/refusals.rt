@@ -50,6 +50,7 @@ pub enum Refusal {
 }
 
 impl Refusal {
+    // By cases, since a variant that carries values has no number that a cast could give.
     /// The number by which the refusal is told.
     pub fn number(self) -> u8
         ensures { result ≡ refusal_number self }
@@ -84,6 +85,7 @@ impl From<SetFault> for Refusal {
     }
 }
 
+// By cases here and below, since the layers' refusals are types of their own with words of their own.
 impl From<ListRefusal> for Refusal {
     ghost from_gives = { λ e r. r ≡ of_list e };
 

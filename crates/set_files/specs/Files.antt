@@ -1,22 +1,16 @@
 -- The files of a set, by number, and what is told of them.
 -- 0 to 3 are the databases, 4 to 7 their journals, 8 the super-journal, 9 any other.
-use Rattle.std.specs.Prelude.{◌≡◌, ℕ, take, Some, None, Ok, Err, Option, Result}
+use Rattle.std.specs.Prelude.{◌≡◌, take, Some, None, Ok, Err, Option, Result}
 use Rattle.card.specs.Meaning.{Bytes, Name}
 use Rattle.card.specs.Calls.{overwrite}
 use Rattle.journal.specs.Judged.{Judged}
 use Rattle.journal.specs.OnCard.{journal_limit}
 use Rattle.journal.specs.declared.verdict.Verdict.{Verdict}
 use Rattle.refusal.specs.declared.fault.SetFault.{SetFault}
-use Rattle.names.specs.declared.names.Names.{Names}
-use Rattle.names.specs.Names.{named}
 
 -- what each file holds
 abbrev pub Holds : Type 0
 Holds = Name → Option Bytes
-
--- the name of the file of a number
-abbrev pub file_of : Names → ℕ → Name
-file_of s k = named s.rows s.lens s.count k
 
 abbrev pub Present : Option Bytes → Type 0
 Present f = (b : Bytes) × (f ≡ Some b)

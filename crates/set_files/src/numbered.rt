@@ -5,7 +5,8 @@ ghost use Rattle.std.specs.Prelude.{[], ◌∷◌, Some};
 ghost use Rattle.card.specs.Calls.Op.{length_of, delete as deletes};
 ghost use Rattle.journal.specs.OnCard.{judge_acts};
 ghost use Rattle.steps.specs.Tasks.{Went, task, tasks, ToldLength};
-ghost use Rattle.set_files.specs.Files.{file_of, ToldVerdict};
+ghost use Rattle.names.specs.Files.{file_of};
+ghost use Rattle.set_files.specs.Files.{ToldVerdict};
 
 use card::Card;
 use journal::{JOURNAL_LIMIT, Verdict, judge_file};

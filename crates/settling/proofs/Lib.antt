@@ -1,3 +1,2 @@
 mod UpTo
-mod Apart
 mod Restored

@@ -13,10 +13,11 @@ use Rattle.steps.proofs.Went.{acts_append, went_stop, went_end}
 use Rattle.steps.proofs.Held.{leaves_append, left_holds}
 use Rattle.survey.specs.declared.report.Found.{Found}
 use Rattle.survey.specs.declared.report.Found.TheVariants.{None as FoundNone, Hot as FoundHot}
-use Rattle.set_files.specs.Files.{Holds, file_of}
+use Rattle.names.specs.Files.{how_many, file_of}
+use Rattle.set_files.specs.Files.{Holds}
 use Rattle.survey.specs.Seen.{Seen, none, spent, hot, SeenAs, FoundOf, Stands}
 use Rattle.settling.specs.Settled.{site, record_task, write_tasks, finish_tasks, restore_tasks, all_tasks, super_tasks}
-use Rattle.settling.proofs.Apart.{database_file, journal_file, super_file, differ}
+use Rattle.names.proofs.Files.{database_is_file, journal_is_file, super_is_file, files_apart}
 use Rattle.settling.proofs.UpTo.{up_leaves}
 
 -- a journal reported hot stands
@@ -55,23 +56,23 @@ module _ {C : Type 0} (m : Meaning C) (file : ℕ → Name) where
 
 module _ {C : Type 0} (m : Meaning C) (s : Names) (seen : ℕ → Seen) where
   -- no database or journal before the d-th is its journal
-  pub before_leaves : (d : ℕ) → d < s.count → s.count ≤ 4 → Leaves (file_of s (4 + d)) (acts (all_tasks (file_of s) d seen))
+  pub before_leaves : (d : ℕ) → d < how_many s → how_many s ≤ 4 → Leaves (file_of s (4 + d)) (acts (all_tasks (file_of s) d seen))
   before_leaves d lt few =
       up_leaves m (λ i. restore_tasks (file_of s) i (seen i)) (file_of s (4 + d)) d
       (λ i less.
-      restore_leaves m (file_of s) (file_of s (4 + d)) i (seen i) (differ s (4 + d) i (journal_file s.count d lt) (database_file s.count i (omega arith)) (λ e. omega arith))
-      (differ s (4 + d) (4 + i) (journal_file s.count d lt) (journal_file s.count i (omega arith)) (λ e. omega arith)))
+      restore_leaves m (file_of s) (file_of s (4 + d)) i (seen i) (files_apart s (4 + d) i (journal_is_file (how_many s) d lt) (database_is_file (how_many s) i (omega arith)) (λ e. omega arith))
+      (files_apart s (4 + d) (4 + i) (journal_is_file (how_many s) d lt) (journal_is_file (how_many s) i (omega arith)) (λ e. omega arith)))
 
-  pub all_leave_super : s.count ≤ 4 → Leaves (file_of s 8) (acts (all_tasks (file_of s) s.count seen))
+  pub all_leave_super : how_many s ≤ 4 → Leaves (file_of s 8) (acts (all_tasks (file_of s) (how_many s) seen))
   all_leave_super few =
-      up_leaves m (λ i. restore_tasks (file_of s) i (seen i)) (file_of s 8) s.count
+      up_leaves m (λ i. restore_tasks (file_of s) i (seen i)) (file_of s 8) (how_many s)
       (λ i less.
-      restore_leaves m (file_of s) (file_of s 8) i (seen i) (differ s 8 i (super_file s.count) (database_file s.count i less) (λ e. omega arith))
-      (differ s 8 (4 + i) (super_file s.count) (journal_file s.count i less) (λ e. omega arith)))
+      restore_leaves m (file_of s) (file_of s 8) i (seen i) (files_apart s 8 i (super_is_file (how_many s)) (database_is_file (how_many s) i less) (λ e. omega arith))
+      (files_apart s 8 (4 + i) (super_is_file (how_many s)) (journal_is_file (how_many s) i less) (λ e. omega arith)))
 
   -- a journal that was seen still stands when its turn comes
   pub still_stands :
-      (c c₁ : C) (d : ℕ) → d < s.count → s.count ≤ 4 → SeenAs (m.holds c) (file_of s) d (seen d) → Went m {V = Unit {0}} (all_tasks (file_of s) d seen) c (Ok tt) c₁ →
+      (c c₁ : C) (d : ℕ) → d < how_many s → how_many s ≤ 4 → SeenAs (m.holds c) (file_of s) d (seen d) → Went m {V = Unit {0}} (all_tasks (file_of s) d seen) c (Ok tt) c₁ →
       Stands (m.holds c₁) (file_of s) d (seen d)
   still_stands c c₁ d lt few was w = by (seen d) was
     where
@@ -83,5 +84,5 @@ module _ {C : Type 0} (m : Meaning C) (s : Names) (seen : ℕ → Seen) where
       by spent h = tt
       by (hot j) h = (h.lawful, same ∙ h.held)
 
-  pub super_kept : (c c₁ : C) → s.count ≤ 4 → Went m {V = Unit {0}} (all_tasks (file_of s) s.count seen) c (Ok tt) c₁ → m.holds c₁ (file_of s 8) ≡ m.holds c (file_of s 8)
-  super_kept c c₁ few w = left_holds m (file_of s 8) (acts (all_tasks (file_of s) s.count seen)) c c₁ (all_leave_super few) w.ended
+  pub super_kept : (c c₁ : C) → how_many s ≤ 4 → Went m {V = Unit {0}} (all_tasks (file_of s) (how_many s) seen) c (Ok tt) c₁ → m.holds c₁ (file_of s 8) ≡ m.holds c (file_of s 8)
+  super_kept c c₁ few w = left_holds m (file_of s 8) (acts (all_tasks (file_of s) (how_many s) seen)) c c₁ (all_leave_super few) w.ended

@@ -7,7 +7,7 @@ ghost use Rattle.journal.specs.Judged.{Parts};
 ghost use Rattle.journal.specs.OnCard.{judge_acts};
 ghost use Rattle.journal.specs.Read.{Of};
 ghost use Rattle.steps.specs.Tasks.{Went, tasks};
-ghost use Rattle.set_files.specs.Files.{file_of};
+ghost use Rattle.names.specs.Files.{file_of};
 ghost use Rattle.settling.specs.Settled.{site as place_of, record_task, write_tasks, finish_tasks, hot_tasks};
 
 use card::Card;

@@ -1,7 +1,7 @@
 // What is done with the journals that were found.
 ghost use Rattle.std.specs.Prelude.{ℕ, ◌<◌};
 ghost use Rattle.steps.specs.Tasks.{Went};
-ghost use Rattle.set_files.specs.Files.{file_of};
+ghost use Rattle.names.specs.Files.{how_many, file_of};
 ghost use Rattle.survey.specs.Seen.{Seen, Stands, FoundOf, AllSeen};
 ghost use Rattle.settling.specs.Settled.{restore_tasks, all_tasks, super_tasks, settle_tasks};
 
@@ -49,8 +49,8 @@ fn restore_all<C: Card>(
     found: &[Found; DATABASES],
     buffer: &mut [u8; JOURNAL_LIMIT],
 ) -> Result<(), SetFault>
-    requires { (seen : ℕ → Seen) × AllSeen (C.Card.meaning.holds card.old) (file_of names.now) names.now.count found.now seen }
-    ensures { (seen : ℕ → Seen) → AllSeen (C.Card.meaning.holds card.old) (file_of names.now) names.now.count found.now seen → Went C.Card.meaning (all_tasks (file_of names.now) names.now.count seen) card.old result card.new }
+    requires { (seen : ℕ → Seen) × AllSeen (C.Card.meaning.holds card.old) (file_of names.now) (how_many names.now) found.now seen }
+    ensures { (seen : ℕ → Seen) → AllSeen (C.Card.meaning.holds card.old) (file_of names.now) (how_many names.now) found.now seen → Went C.Card.meaning (all_tasks (file_of names.now) (how_many names.now) seen) card.old result card.new }
 {
     for (d, found) in found[0..names.count()].iter().enumerate() {
         restore(card, names, d, *found, buffer)?;
@@ -67,8 +67,8 @@ pub fn settle<C: Card>(
     found: &[Found; DATABASES],
     buffer: &mut [u8; JOURNAL_LIMIT],
 ) -> Result<(), SetFault>
-    requires { (seen : ℕ → Seen) × AllSeen (C.Card.meaning.holds card.old) (file_of names.now) names.now.count found.now seen }
-    ensures { (seen : ℕ → Seen) → AllSeen (C.Card.meaning.holds card.old) (file_of names.now) names.now.count found.now seen → Went C.Card.meaning (settle_tasks (file_of names.now) names.now.count seen (C.Card.meaning.holds card.old (file_of names.now 8))) card.old result card.new }
+    requires { (seen : ℕ → Seen) × AllSeen (C.Card.meaning.holds card.old) (file_of names.now) (how_many names.now) found.now seen }
+    ensures { (seen : ℕ → Seen) → AllSeen (C.Card.meaning.holds card.old) (file_of names.now) (how_many names.now) found.now seen → Went C.Card.meaning (settle_tasks (file_of names.now) (how_many names.now) seen (C.Card.meaning.holds card.old (file_of names.now 8))) card.old result card.new }
 {
     restore_all(card, names, found, buffer)?;
     delete_super(card, names)

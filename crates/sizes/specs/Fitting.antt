@@ -1,9 +1,5 @@
 -- Sizes of four databases in pages: each is 1 to 4,096.
-use Rattle.std.specs.Prelude.{ℕ, ◌<◌, ◌≤◌, Bool, ◌&&◌, List, nat_le, slice_index}
-
--- a database can have so many pages
-abbrev pub fits : ℕ → Bool
-fits n = nat_le 1 n && nat_le n 4096
+use Rattle.std.specs.Prelude.{ℕ, ◌<◌, ◌≤◌, List, slice_index}
 
 abbrev pub EachSome : List ℕ → Type 0
 EachSome rows = (i : ℕ) → i < 4 → 1 ≤ slice_index rows i

@@ -2,7 +2,7 @@
 use Rattle.std.proofs.Common.{◌≡◌, ℕ, None, Option, Result, sym, refl, ◌∙◌, subst}
 use Rattle.card.specs.Meaning.{Meaning}
 use Rattle.names.specs.declared.names.Names.{Names}
-use Rattle.names.specs.Names.{named}
+use Rattle.names.specs.Files.{how_many, file_of}
 use Rattle.refusal.specs.declared.fault.SetFault.{SetFault}
 use Rattle.refusal.specs.declared.refusals.Refusal.{Refusal}
 use Rattle.sizes.specs.declared.Sizes.{Sizes}
@@ -20,8 +20,8 @@ module _ {C : Type 0} (m : Meaning C) where
   -- what a commit does on the card, by the parts of the set
   abbrev pub OfParts : C → Names → Memory → Sizes → ℕ → Result ℕ SetFault → C → Type 0
   OfParts card names memory stored nonce answer card' =
-      Committed m (named names.rows names.lens names.count) nonce
-      (changes (λ d. contents (m.holds card (named names.rows names.lens names.count d))) stored.rows memory names.count) card answer card'
+      Committed m (file_of names) nonce
+      (changes (λ d. contents (m.holds card (file_of names d))) stored.rows memory (how_many names)) card answer card'
 
   same_parts :
       (card card₁ : C) (names names₁ : Names) (memory memory₁ : Memory) (stored stored₁ : Sizes) (nonce nonce₁ : ℕ) (answer : Result ℕ SetFault) (card' : C) →

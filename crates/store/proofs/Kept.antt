@@ -3,6 +3,7 @@
 use Rattle.std.proofs.Common.{◌≡◌, ℕ, Bool, true, false, cond, Some, None, Option, sym, refl, ap, subst, arith}
 use native.Mathlib.Bridge.{le_prop}
 use native.Mathlib.Nat.{ℕ_set}
+use Rattle.names.specs.Files.{how_many}
 use Rattle.refusal.specs.declared.refusals.Refusal.{Refusal}
 use Rattle.pager.specs.declared.memory.Memory.{Memory}
 use Rattle.store.specs.declared.set.Set.{Set}
@@ -10,7 +11,7 @@ use Rattle.store.specs.Calls.{or_else, ButMemory}
 use Rattle.sizes.specs.Fitting.{EachSome, EachSmall}
 
 -- the set with another memory
-abbrev pub with_memory : {C : Type 0} (s : Set C) (m : Memory) → m.count ≡ s.names.count → EachSome m.sizes → EachSmall m.sizes → Set C
+abbrev pub with_memory : {C : Type 0} (s : Set C) (m : Memory) → m.count ≡ how_many s.names → EachSome m.sizes → EachSmall m.sizes → Set C
 with_memory s m tied some small = record {
   card = s.card;
   names = s.names;
@@ -25,13 +26,13 @@ with_memory s m tied some small = record {
 }
 
 pub same_memory :
-    {C : Type 0} (s : Set C) (m : Memory) (tied : m.count ≡ s.names.count) (some : EachSome m.sizes) (small : EachSmall m.sizes) → m ≡ s.memory →
+    {C : Type 0} (s : Set C) (m : Memory) (tied : m.count ≡ how_many s.names) (some : EachSome m.sizes) (small : EachSmall m.sizes) → m ≡ s.memory →
     with_memory s m tied some small ≡ s
 same_memory {C} s m tied some small e =
-    subst (λ (x : Memory). (t : x.count ≡ s.names.count) (a : EachSome x.sizes) (b : EachSmall x.sizes) → with_memory s x t a b ≡ s) (sym e)
+    subst (λ (x : Memory). (t : x.count ≡ how_many s.names) (a : EachSome x.sizes) (b : EachSmall x.sizes) → with_memory s x t a b ≡ s) (sym e)
     (λ t a b i. with_memory s s.memory (ℕ_set _ _ t s.tied i) (λ k lt. le_prop (a k lt) (s.some k lt) i) (λ k lt. le_prop (b k lt) (s.small k lt) i)) tied some small
 
-pub but_memory : {C : Type 0} {s t : Set C} {m : Memory} {tied : m.count ≡ t.names.count} {some : EachSome m.sizes} {small : EachSmall m.sizes} → t ≡ s → ButMemory s (with_memory t m tied some small)
+pub but_memory : {C : Type 0} {s t : Set C} {m : Memory} {tied : m.count ≡ (how_many t.names)} {some : EachSome m.sizes} {small : EachSmall m.sizes} → t ≡ s → ButMemory s (with_memory t m tied some small)
 but_memory {C} e =
     record {
       card = ap (λ (x : Set C). x.card) e;

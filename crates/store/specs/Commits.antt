@@ -1,6 +1,7 @@
 -- What a commit of a set is answered, and what it leaves.
 use Rattle.std.specs.Prelude.{◌≡◌, ℕ, cond, Some, None, Ok, Err, Option, Result, ◌==◌}
 use Rattle.card.specs.Meaning.{Meaning}
+use Rattle.names.specs.Files.{how_many}
 use Rattle.refusal.specs.declared.fault.SetFault.{SetFault}
 use Rattle.refusal.specs.declared.refusals.Refusal.{Refusal}
 use Rattle.refusal.specs.declared.refusals.Refusal.TheVariants.{Card}
@@ -35,7 +36,7 @@ module _ {C : Type 0} (m : Meaning C) (s : Set C) (r : Result ℕ Refusal) (s' :
   -- the plan of the changed pages was carried out on the card, and its answer is told
   pub record CarriedOut : Type 0 where
     pub answer : Result ℕ SetFault
-    pub committed : Committed m (file_of s) (nonce_of s.mode) (changes (files_of m s) s.stored.rows s.memory s.names.count) s.card answer s'.card
+    pub committed : Committed m (file_of s) (nonce_of s.mode) (changes (files_of m s) s.stored.rows s.memory (how_many s.names)) s.card answer s'.card
     pub told : r ≡ told answer
     pub concluded : Concluded answer s.memory s.stored s'.mode s'.memory s'.stored
     pub names : s'.names ≡ s.names

@@ -4,6 +4,7 @@ use Rattle.card.specs.declared.fault.Cause.{Cause}
 use Rattle.card.specs.declared.fault.Cause.TheVariants.{Power, Device, Absent, Present, Range}
 use Rattle.card.specs.Meaning.{Meaning, Bytes, Name}
 use Rattle.card.specs.Calls.{read, part}
+use Rattle.names.specs.Files.{names_of}
 use Rattle.names.specs.Names.{named}
 use Rattle.refusal.specs.declared.fault.SetFault.{SetFault}
 use Rattle.refusal.specs.declared.refusals.Refusal.{Refusal}
@@ -58,7 +59,7 @@ LeftBy (Err f) mode memory rows mode' memory' = Left mode memory rows mode' memo
 
 -- the name of a database's file
 abbrev pub file_of : {C : Type 0} → Set C → ℕ → Name
-file_of s d = named s.names.rows s.names.lens s.names.count d
+file_of s d = named (names_of s.names) d
 
 module _ {C : Type 0} (m : Meaning C) (d p : ℕ) (s : Set C) (old : Bytes) (r : Result (Unit {0}) Refusal) (s' : Set C) (new : Bytes) where
   -- one call of the card reads the page, and its answer is told

@@ -1,6 +1,7 @@
 -- What a recovery of a set is answered, and what it leaves.
 use Rattle.std.specs.Prelude.{◌≡◌, Ok, Err, Result}
 use Rattle.card.specs.Meaning.{Meaning}
+use Rattle.names.specs.Files.{how_many}
 use Rattle.refusal.specs.declared.refusals.Refusal.{Refusal}
 use Rattle.sizes.specs.declared.Sizes.{Sizes}
 use Rattle.sizes.specs.Fitting.{Fitting}
@@ -25,7 +26,7 @@ Restarted (Ok found) memory stored mode' memory' stored' = (mode' ≡ Ready) × 
 Restarted (Err e) memory stored mode' memory' stored' = (mode' ≡ Cold) × (stored' ≡ stored) × Fresh memory stored.rows memory'
 
 pub record Recovers {C : Type 0} (m : Meaning C) (s : Set C) (r : Result Recovery Refusal) (s' : Set C) : Type 0 where
-  pub recovered : Recovered m (file_of s) s.names.count s.card r s'.card
+  pub recovered : Recovered m (file_of s) (how_many s.names) s.card r s'.card
   pub restarted : Restarted r s.memory s.stored s'.mode s'.memory s'.stored
   pub names : s'.names ≡ s.names
   pub begun : s'.begun ≡ s.begun

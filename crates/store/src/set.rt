@@ -1,5 +1,6 @@
 // The set: its card, its names, and what it holds in memory.
 ghost use Rattle.std.specs.Prelude.{◌≡◌};
+ghost use Rattle.names.specs.Files.{how_many};
 ghost use Rattle.sizes.specs.Fitting.{EachSome, EachSmall};
 
 use crate::mode::Mode;
@@ -28,7 +29,7 @@ pub struct Set<C> {
     mode: Mode,
     begun: u32,
     buffer: [u8; JOURNAL_LIMIT],
-    ghost tied: { memory.count ≡ names.count },
+    ghost tied: { memory.count ≡ how_many names },
     ghost some: { EachSome memory.sizes },
     ghost small: { EachSmall memory.sizes },
 }

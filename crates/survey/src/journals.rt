@@ -1,7 +1,7 @@
 // The journals of a set, judged in order.
 ghost use Rattle.std.specs.Prelude.{◌≡◌, ℕ, ◌+◌, ◌<◌, ◌≤◌, Some, MatchOption, ◌≢◌};
 ghost use Rattle.refusal.specs.declared.step.Step.TheVariants.{R1};
-ghost use Rattle.set_files.specs.Files.{file_of};
+ghost use Rattle.names.specs.Files.{how_many, file_of};
 ghost use Rattle.set_files.specs.Looked.{Looked, Told, dropped, never, never₂};
 ghost use Rattle.survey.specs.Finds.{DamagedAt};
 ghost use Rattle.survey.specs.Linked.{LinkAs, SuperLook, LookedAs, AllLooked, look_at};
@@ -83,7 +83,7 @@ pub(crate) fn judge_journals<C: Card>(
     buffer: &mut [u8; JOURNAL_LIMIT],
 ) -> Result<[Look; DATABASES], Refusal>
     ensures looked { Looked C.Card.meaning R1 (file_of names.now) card.old (dropped result) card.new }
-    ensures told { Told result (AllLooked (C.Card.meaning.holds card.old) (file_of names.now) names.now.count) (λ f k. (d : ℕ) × (f ≡ 4 + d) × (d < names.now.count) × ((i : ℕ) → i < d → (s : Seen) × SeenAs (C.Card.meaning.holds card.old) (file_of names.now) i s) × DamagedAt (C.Card.meaning.holds card.old) (file_of names.now) d k) never never }
+    ensures told { Told result (AllLooked (C.Card.meaning.holds card.old) (file_of names.now) (how_many names.now)) (λ f k. (d : ℕ) × (f ≡ 4 + d) × (d < how_many names.now) × ((i : ℕ) → i < d → (s : Seen) × SeenAs (C.Card.meaning.holds card.old) (file_of names.now) i s) × DamagedAt (C.Card.meaning.holds card.old) (file_of names.now) d k) never never }
 {
     let mut looks = [Look::alone(Found::None); DATABASES];
     let kept = &mut looks[0..names.count()];

@@ -4,7 +4,8 @@ ghost use Rattle.card.specs.Calls.{part};
 ghost use Rattle.card.specs.Meaning.{Name};
 ghost use Rattle.super_journal.specs.Super.{LawfulNames, lying_at};
 ghost use Rattle.refusal.specs.declared.step.Step.TheVariants.{R1};
-ghost use Rattle.set_files.specs.Files.{file_of, Present};
+ghost use Rattle.names.specs.Files.{how_many, file_of};
+ghost use Rattle.set_files.specs.Files.{Present};
 ghost use Rattle.survey.specs.Finds.{JournalName, NoNames, AllFine, Stray, Listed, Strays};
 ghost use Rattle.set_files.specs.Looked.{Looked, Told, dropped, ended, never, never₂};
 
@@ -35,7 +36,7 @@ fn name_at(bytes: &[u8], span: Span) -> &[u8]
 /// Tests that a listed file is a journal of the set, or absent.
 fn check_listed<C: Card>(card: &mut C, names: &Names, name: &[u8]) -> Result<(), Refusal>
     ensures looked { Looked C.Card.meaning R1 (file_of names.now) card.old (dropped result) card.new }
-    ensures told { Told result (λ _. JournalName (file_of names.now) names.now.count name.now ⊎ (C.Card.meaning.holds card.old name.now ≡ None)) never₂ (λ f. (f ≡ 9) × (JournalName (file_of names.now) names.now.count name.now → ⊥) × Present (C.Card.meaning.holds card.old name.now)) never }
+    ensures told { Told result (λ _. JournalName (file_of names.now) (how_many names.now) name.now ⊎ (C.Card.meaning.holds card.old name.now ≡ None)) never₂ (λ f. (f ≡ 9) × (JournalName (file_of names.now) (how_many names.now) name.now → ⊥) × Present (C.Card.meaning.holds card.old name.now)) never }
 {
     if names.is_journal(name) {
         return Ok(());
@@ -55,7 +56,7 @@ fn check_names<C: Card>(
 ) -> Result<(), Refusal>
     requires { LawfulNames (lying_at bytes.now places.now) }
     ensures looked { Looked C.Card.meaning R1 (file_of names.now) card.old (dropped result) card.new }
-    ensures told { Told result (λ _. AllFine (C.Card.meaning.holds card.old) (file_of names.now) names.now.count (lying_at bytes.now places.now)) never₂ (λ f. (f ≡ 9) × Stray (C.Card.meaning.holds card.old) (file_of names.now) names.now.count (lying_at bytes.now places.now)) never }
+    ensures told { Told result (λ _. AllFine (C.Card.meaning.holds card.old) (file_of names.now) (how_many names.now) (lying_at bytes.now places.now)) never₂ (λ f. (f ≡ 9) × Stray (C.Card.meaning.holds card.old) (file_of names.now) (how_many names.now) (lying_at bytes.now places.now)) never }
 {
     for span in places {
         check_listed(card, names, name_at(bytes, *span))?;
@@ -66,7 +67,7 @@ fn check_names<C: Card>(
 /// Tests that the bytes are a list of names, and each file of it.
 fn check_list<C: Card>(card: &mut C, names: &Names, bytes: &[u8]) -> Result<(), Refusal>
     ensures looked { Looked C.Card.meaning R1 (file_of names.now) card.old (dropped result) card.new }
-    ensures told { Told result (λ _. (ns : List Name) × Listed (C.Card.meaning.holds card.old) (file_of names.now) names.now.count bytes.now ns) (λ f k. (f ≡ 8) × (k ≡ 0) × NoNames bytes.now) (λ f. (f ≡ 9) × ((ns : List Name) × Strays (C.Card.meaning.holds card.old) (file_of names.now) names.now.count bytes.now ns)) never }
+    ensures told { Told result (λ _. (ns : List Name) × Listed (C.Card.meaning.holds card.old) (file_of names.now) (how_many names.now) bytes.now ns) (λ f k. (f ≡ 8) × (k ≡ 0) × NoNames bytes.now) (λ f. (f ≡ 9) × ((ns : List Name) × Strays (C.Card.meaning.holds card.old) (file_of names.now) (how_many names.now) bytes.now ns)) never }
 {
     let list = read_names(bytes).ok_or(NO_LIST)?;
     check_names(card, names, bytes, list.as_slice())
@@ -103,7 +104,7 @@ pub(crate) fn check_super<C: Card>(
 ) -> Result<(), Refusal>
     requires { Present (C.Card.meaning.holds card.old (file_of names.now 8)) }
     ensures looked { Looked C.Card.meaning R1 (file_of names.now) card.old (dropped result) card.new }
-    ensures told { Told result (λ _. (b : List ℕ) × (C.Card.meaning.holds card.old (file_of names.now 8) ≡ Some b) × ((ns : List Name) × Listed (C.Card.meaning.holds card.old) (file_of names.now) names.now.count b ns)) (λ f k. (f ≡ 8) × (k ≡ 0) × ((b : List ℕ) × (C.Card.meaning.holds card.old (file_of names.now 8) ≡ Some b) × NoNames b)) (λ f. (f ≡ 9) × ((b : List ℕ) × (C.Card.meaning.holds card.old (file_of names.now 8) ≡ Some b) × ((ns : List Name) × Strays (C.Card.meaning.holds card.old) (file_of names.now) names.now.count b ns))) never }
+    ensures told { Told result (λ _. (b : List ℕ) × (C.Card.meaning.holds card.old (file_of names.now 8) ≡ Some b) × ((ns : List Name) × Listed (C.Card.meaning.holds card.old) (file_of names.now) (how_many names.now) b ns)) (λ f k. (f ≡ 8) × (k ≡ 0) × ((b : List ℕ) × (C.Card.meaning.holds card.old (file_of names.now 8) ≡ Some b) × NoNames b)) (λ f. (f ≡ 9) × ((b : List ℕ) × (C.Card.meaning.holds card.old (file_of names.now 8) ≡ Some b) × ((ns : List Name) × Strays (C.Card.meaning.holds card.old) (file_of names.now) (how_many names.now) b ns))) never }
 {
     let length = read_super(card, names, buffer)?.ok_or(NO_LIST)?;
     check_list(card, names, &buffer[0..length])

@@ -1,7 +1,7 @@
 // What is found before anything is changed.
 ghost use Rattle.std.specs.Prelude.{◌≡◌, ℕ, ◌<◌};
 ghost use Rattle.refusal.specs.declared.step.Step.TheVariants.{R1};
-ghost use Rattle.set_files.specs.Files.{file_of};
+ghost use Rattle.names.specs.Files.{how_many, file_of};
 ghost use Rattle.set_files.specs.Looked.{Looked, dropped};
 ghost use Rattle.survey.specs.Finds.{Finds};
 ghost use Rattle.survey.specs.Linked.{look_at};
@@ -33,7 +33,7 @@ pub fn survey<C: Card>(
     buffer: &mut [u8; JOURNAL_LIMIT],
 ) -> Result<[Found; DATABASES], Refusal>
     ensures looked { Looked C.Card.meaning R1 (file_of names.now) card.old (dropped result) card.new }
-    ensures told { Finds (C.Card.meaning.holds card.old) (file_of names.now) names.now.count result }
+    ensures told { Finds (C.Card.meaning.holds card.old) (file_of names.now) (how_many names.now) result }
 {
     all_present(card, names)?;
     let looks = judge_journals(card, names, buffer)?;

@@ -1,5 +1,6 @@
 // Making a set, taking it apart, and looking at it.
 ghost use Rattle.std.specs.Prelude.{◌≡◌, ℕ, ◌<◌, ◌≤◌, List, [], ◌∷◌, MatchResult, slice_index};
+ghost use Rattle.names.specs.Files.{how_many};
 ghost use Rattle.refusal.specs.declared.refusals.Refusal.TheVariants.{NoDatabase};
 ghost use Rattle.pager.specs.Machine.{cleared};
 ghost use Rattle.pager.specs.View.{view, Stored};
@@ -66,14 +67,14 @@ impl<C> Set<C> {
 
     /// How many databases there are.
     pub fn count(&self) -> usize
-        ensures { result ≡ self.now.names.count }
+        ensures { result ≡ how_many self.now.names }
     {
         self.names.count()
     }
 
     /// How many pages a database has now.
     pub fn size(&self, database: usize) -> Result<u32, Refusal>
-        ensures { MatchResult result (λ n. (database < self.now.names.count) × (n ≡ slice_index self.now.memory.sizes database)) (λ e. (self.now.names.count ≤ database) × (e ≡ NoDatabase)) }
+        ensures { MatchResult result (λ n. (database < how_many self.now.names) × (n ≡ slice_index self.now.memory.sizes database)) (λ e. (how_many self.now.names ≤ database) × (e ≡ NoDatabase)) }
     {
         let pages = self.memory.size(database)?;
         Ok(pages)

@@ -1,7 +1,7 @@
 // Reading a page: from memory if it is changed, else from the card.
 ghost use Rattle.std.specs.Prelude.{◌≡◌, ◌≤◌, [], ◌∷◌, length as count_of};
 ghost use Rattle.card.specs.Calls.Op.{read as reads};
-ghost use Rattle.names.specs.Names.{named};
+ghost use Rattle.names.specs.Files.{file_of};
 ghost use Rattle.pager.specs.Changed.{look};
 ghost use Rattle.pager.specs.View.{fields};
 ghost use Rattle.steps.specs.Tasks.{Went, task, ToldBytes};
@@ -26,8 +26,8 @@ fn read_page<C: Card>(
     requires first { 1 ≤ page }
     requires last { page ≤ 4096 }
     requires long { count_of buffer.old ≡ 512 }
-    ensures went { Went C.Card.meaning (task (at_reading database) (named names.now.rows names.now.lens names.now.count database) (reads (place_of page) 512) ∷ []) card.old result card.new }
-    ensures bytes { ToldBytes (C.Card.meaning.holds card.old (named names.now.rows names.now.lens names.now.count database)) (place_of page) buffer.old result buffer.new }
+    ensures went { Went C.Card.meaning (task (at_reading database) (file_of names.now database) (reads (place_of page) 512) ∷ []) card.old result card.new }
+    ensures bytes { ToldBytes (C.Card.meaning.holds card.old (file_of names.now database)) (place_of page) buffer.old result buffer.new }
 {
     let name = names.file(database);
     Site::reading(database).read(card, name.bytes(), (page - 1) * PAGE as u32, buffer)

@@ -1,5 +1,6 @@
 use Rattle.std.proofs.Common.{◌≡◌, ◌<◌, length, subst, arith}
-use Rattle.set_files.specs.Files.{Holds, file_of}
+use Rattle.names.specs.Files.{how_many, file_of}
+use Rattle.set_files.specs.Files.{Holds}
 use Rattle.set_files.specs.Looked.{never, never₂}
 use Rattle.set_files.proofs.Looks.{looked_end, looked_then, looked_same, looked_refused, told_up}
 use Rattle.recovery.specs.Measured.{HasPages, Unsized}
@@ -16,8 +17,8 @@ returns-in_err-size-clause-looked g c =
 pub returns-in_err-size-clause-told : goal.returns-in_err-size-clause-told
 returns-in_err-size-clause-told g c =
     let same = looked_same _ _ _ _ _ c.loop-d.invariant.0 in
-    let lt : c.loop-d.d < c.args.names.now.count = omega arith in
-    told_up c.from_residual.result _ _ _ never₂ _ never _ (Unsized (g.C.Card.meaning.holds c.args.card.now) (file_of c.args.names.now) c.args.names.now.count) c.from_residual.ensures.1 (λ f k h. h) (λ f h. h)
+    let lt : c.loop-d.d < how_many c.args.names.now = omega arith in
+    told_up c.from_residual.result _ _ _ never₂ _ never _ (Unsized (g.C.Card.meaning.holds c.args.card.now) (file_of c.args.names.now) (how_many c.args.names.now)) c.from_residual.ensures.1 (λ f k h. h) (λ f h. h)
     (λ i h. unsized_at _ _ (file_of c.args.names.now) _ c.loop-d.d c.loop-d.kept i same lt c.loop-d.invariant.1 h) c.in_err-size.ensures.told
 
 pub loop-d-preserved : goal.loop-d-preserved
@@ -32,5 +33,5 @@ loop-d-preserved g c =
 
 pub returns-clause-told : goal.returns-clause-told
 returns-clause-told g c =
-    let long : length c.loop-d.kept ≡ c.args.names.now.count = omega arith in
+    let long : length c.loop-d.kept ≡ how_many c.args.names.now = omega arith in
     all_measured _ _ _ c.count.result _ c.count.ensures long (λ k lt. c.loop-d.invariant.1 k (omega arith))

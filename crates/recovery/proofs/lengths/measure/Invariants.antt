@@ -1,6 +1,6 @@
 use Rattle.std.proofs.Common.{ℕ, ◌<◌, Ok, get_or}
 use Rattle.refusal.specs.declared.step.Step.TheVariants.{R4}
-use Rattle.set_files.specs.Files.{file_of}
+use Rattle.names.specs.Files.{file_of}
 use Rattle.set_files.specs.Looked.{Looked}
 use Rattle.recovery.specs.Measured.{HasPages}
 use Rattle.recovery.proofs.lengths.measure.Given as goal

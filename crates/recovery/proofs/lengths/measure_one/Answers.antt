@@ -1,5 +1,5 @@
 use Rattle.std.proofs.Common.{◌≡◌, ℕ, None, MatchOption, refl, inr, rules}
-use Rattle.set_files.specs.Files.{file_of}
+use Rattle.names.specs.Files.{file_of}
 use Rattle.set_files.proofs.Looks.{looked_one, looked_refused}
 use Rattle.recovery.specs.Measured.{Pages}
 use Rattle.recovery.proofs.InPages.{dropped_pages, told_measured}

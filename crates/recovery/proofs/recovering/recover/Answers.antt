@@ -1,5 +1,6 @@
 use Rattle.std.proofs.Common.{Ok, Err, sym, refl, subst}
-use Rattle.set_files.specs.Files.{Holds, file_of}
+use Rattle.names.specs.Files.{how_many, file_of}
+use Rattle.set_files.specs.Files.{Holds}
 use Rattle.survey.specs.Seen.{AllSeen}
 use Rattle.set_files.proofs.Looks.{looked_same, passed_up}
 use Rattle.recovery.proofs.recovering.recover.Goals as goal
@@ -20,7 +21,7 @@ returns-in_err-found g c =
 pub settle-requires : goal.settle-requires
 settle-requires g c =
     let file = file_of c.args.names.now in
-    let n = c.args.names.now.count in
+    let n = how_many c.args.names.now in
     let seen = c.in_ok-found.ensures.told.journals.reported in
     let same = looked_same _ _ _ _ _ c.in_ok-found.ensures.looked in
     (seen.0, subst (λ (x : Holds). AllSeen x file n c.in_ok-found.found seen.0) (sym same) seen.1)

@@ -1,7 +1,7 @@
 use Rattle.std.proofs.Common.{ℕ, [], ◌∷◌, subst}
 use Rattle.steps.specs.Tasks.{Went}
 use Rattle.set_files.proofs.Looks.{passed_up}
-use Rattle.set_files.specs.Files.{file_of}
+use Rattle.names.specs.Files.{file_of}
 use Rattle.settling.specs.Settled.{finish_tasks}
 use Rattle.journal.specs.declared.verdict.Sound.{Sound as SoundParts}
 use Rattle.steps.proofs.Went.{went_then}

@@ -2,7 +2,7 @@ use Rattle.std.proofs.Common.{[], ◌∷◌, Ok}
 use Rattle.journal.specs.Format.{Journal}
 use Rattle.journal.specs.Read.{Of}
 use Rattle.steps.specs.Tasks.{Went}
-use Rattle.set_files.specs.Files.{file_of}
+use Rattle.names.specs.Files.{file_of}
 use Rattle.settling.specs.Settled.{up_to, record_task}
 use Rattle.settling.proofs.playback.write_records.Given as goal
 

@@ -2,7 +2,7 @@ use Rattle.std.proofs.Common.{Option, sym, ◌∙◌, subst}
 use Rattle.card.specs.Meaning.{Bytes}
 use Rattle.steps.specs.Tasks.{Went}
 use Rattle.steps.proofs.Went.{went_up}
-use Rattle.set_files.specs.Files.{file_of}
+use Rattle.names.specs.Files.{file_of}
 use Rattle.set_files.proofs.Looks.{passed_up, told_some}
 use Rattle.settling.specs.Settled.{super_tasks}
 use Rattle.settling.proofs.Restored.{super_stop}

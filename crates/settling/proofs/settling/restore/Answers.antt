@@ -1,4 +1,4 @@
-use Rattle.set_files.specs.Files.{file_of}
+use Rattle.names.specs.Files.{file_of}
 use Rattle.settling.proofs.Restored.{restore_none}
 use Rattle.settling.proofs.settling.restore.Goals as goal
 

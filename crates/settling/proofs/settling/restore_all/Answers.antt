@@ -6,7 +6,7 @@ use Rattle.survey.specs.Seen.{Seen, FoundOf, found_at}
 use Rattle.set_files.proofs.Looks.{passed_up}
 use Rattle.steps.specs.Tasks.{Went}
 use Rattle.steps.proofs.Went.{went_up}
-use Rattle.set_files.specs.Files.{file_of}
+use Rattle.names.specs.Files.{how_many, file_of}
 use Rattle.settling.specs.Settled.{all_tasks}
 use Rattle.settling.proofs.UpTo.{up_none, up_more, up_stop}
 use Rattle.settling.proofs.Restored.{still_stands}
@@ -21,8 +21,8 @@ loop-d-init g c = λ seen all. up_none _ _ _
 
 pub restore-requires-clause-seen : goal.restore-requires-clause-seen
 restore-requires-clause-seen g c =
-    let lt : c.loop-d.d < c.args.names.now.count = omega arith in
-    let few : c.args.names.now.count ≤ 4 = omega arith in
+    let lt : c.loop-d.d < how_many c.args.names.now = omega arith in
+    let few : how_many c.args.names.now ≤ 4 = omega arith in
     let seen = c.requires.0 in
     let all = c.requires.1 in
     let here = all c.loop-d.d lt in
@@ -32,8 +32,8 @@ restore-requires-clause-seen g c =
 pub returns-in_err-restore : goal.returns-in_err-restore
 returns-in_err-restore g c =
     let failed = passed_up _ _ c.from_residual.ensures.1 in
-    let lt : c.loop-d.d < c.args.names.now.count = omega arith in
-    let few : c.args.names.now.count ≤ 4 = omega arith in
+    let lt : c.loop-d.d < how_many c.args.names.now = omega arith in
+    let few : how_many c.args.names.now ≤ 4 = omega arith in
     λ seen all.
     let old = c.loop-d.invariant seen all in
     let here = all c.loop-d.d lt in
@@ -42,8 +42,8 @@ returns-in_err-restore g c =
 
 pub loop-d-preserved : goal.loop-d-preserved
 loop-d-preserved g c =
-    let lt : c.loop-d.d < c.args.names.now.count = omega arith in
-    let few : c.args.names.now.count ≤ 4 = omega arith in
+    let lt : c.loop-d.d < how_many c.args.names.now = omega arith in
+    let few : how_many c.args.names.now ≤ 4 = omega arith in
     λ seen all.
     let old = c.loop-d.invariant seen all in
     let here = all c.loop-d.d lt in
@@ -51,5 +51,5 @@ loop-d-preserved g c =
 
 pub returns : goal.returns
 returns g c =
-    let end : c.loop-d.d ≡ c.args.names.now.count = omega arith in
+    let end : c.loop-d.d ≡ how_many c.args.names.now = omega arith in
     λ seen all. subst (λ (k : ℕ). Went g.C.Card.meaning {V = Unit {0}} (all_tasks (file_of c.args.names.now) k seen) c.args.card.now (Ok tt) c.loop-d.card) end (c.loop-d.invariant seen all)

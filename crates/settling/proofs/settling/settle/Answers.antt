@@ -3,7 +3,7 @@ use Rattle.set_files.proofs.Looks.{passed_up}
 use Rattle.card.specs.Meaning.{Bytes}
 use Rattle.steps.specs.Tasks.{Went}
 use Rattle.steps.proofs.Went.{went_then}
-use Rattle.set_files.specs.Files.{file_of}
+use Rattle.names.specs.Files.{how_many, file_of}
 use Rattle.settling.specs.Settled.{super_tasks}
 use Rattle.settling.proofs.UpTo.{went_fail}
 use Rattle.settling.proofs.Restored.{super_kept}
@@ -16,7 +16,7 @@ returns-in_err-restore_all g c =
 
 pub returns : goal.returns
 returns g c =
-    let few : c.args.names.now.count ≤ 4 = omega arith in
+    let few : how_many c.args.names.now ≤ 4 = omega arith in
     λ seen all.
     let first = c.in_ok-restore_all.ensures seen all in
     went_then _ _ _ _ _ _ _ _ first

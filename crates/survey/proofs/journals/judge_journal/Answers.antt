@@ -1,6 +1,7 @@
 use Rattle.std.proofs.Common.{◌≡◌, ◌+◌, subst}
 use Rattle.refusal.specs.declared.step.Step.TheVariants.{R1}
-use Rattle.set_files.specs.Files.{Holds, file_of}
+use Rattle.names.specs.Files.{file_of}
+use Rattle.set_files.specs.Files.{Holds}
 use Rattle.set_files.specs.Looked.{never}
 use Rattle.set_files.proofs.Looks.{looked_judged, looked_then, looked_same, looked_refused, told_more}
 use Rattle.set_files.proofs.Played.{told_judged, journal_read}

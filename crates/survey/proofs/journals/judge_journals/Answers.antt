@@ -1,5 +1,6 @@
 use Rattle.std.proofs.Common.{◌≡◌, ℕ, ◌+◌, ◌<◌, length, subst, arith}
-use Rattle.set_files.specs.Files.{Holds, file_of}
+use Rattle.names.specs.Files.{how_many, file_of}
+use Rattle.set_files.specs.Files.{Holds}
 use Rattle.set_files.specs.Looked.{never}
 use Rattle.set_files.proofs.Looks.{looked_end, looked_then, looked_same, looked_refused, told_up}
 use Rattle.survey.specs.Finds.{DamagedAt}
@@ -20,8 +21,8 @@ returns-in_err-look-clause-told g c =
     let files = g.C.Card.meaning.holds c.args.card.now in
     let old = c.loop-d.invariant in
     let same = looked_same _ _ _ _ _ old.0 in
-    let lt : c.loop-d.d < c.args.names.now.count = omega arith in
-    let bad = λ (f k : ℕ). (d : ℕ) × (f ≡ 4 + d) × (d < c.args.names.now.count) × ((i : ℕ) → i < d → (s : Seen) × SeenAs files file i s) × DamagedAt files file d k in
+    let lt : c.loop-d.d < how_many c.args.names.now = omega arith in
+    let bad = λ (f k : ℕ). (d : ℕ) × (f ≡ 4 + d) × (d < how_many c.args.names.now) × ((i : ℕ) → i < d → (s : Seen) × SeenAs files file i s) × DamagedAt files file d k in
     told_up c.from_residual.result _ _ _ bad _ never _ never c.from_residual.ensures.1
     (λ f k h. (c.loop-d.d, h.0, lt, λ i less. ((old.1 i less).0, (old.1 i less).1), subst (λ (x : Holds). DamagedAt x file c.loop-d.d k) same h.1)) (λ f h. h) (λ f h. h) c.in_err-look.ensures.told
 
@@ -36,5 +37,5 @@ loop-d-preserved g c =
 
 pub returns-clause-told : goal.returns-clause-told
 returns-clause-told g c =
-    let long : length c.loop-d.kept ≡ c.args.names.now.count = omega arith in
+    let long : length c.loop-d.kept ≡ how_many c.args.names.now = omega arith in
     all_looked _ _ _ c.count.result _ _ c.count.ensures long c.alone-looks.ensures (λ k lt. c.loop-d.invariant.1 k (omega arith))

@@ -1,6 +1,6 @@
 use Rattle.std.proofs.Common.{ℕ, ◌<◌, Ok}
 use Rattle.refusal.specs.declared.step.Step.TheVariants.{R1}
-use Rattle.set_files.specs.Files.{file_of}
+use Rattle.names.specs.Files.{file_of}
 use Rattle.set_files.specs.Looked.{Looked}
 use Rattle.survey.specs.Linked.{LookedAs, look_at}
 use Rattle.survey.proofs.journals.judge_journals.Given as goal

@@ -1,5 +1,5 @@
 use Rattle.std.proofs.Common.{◌≡◌, ◌⊎◌, inl, inr}
-use Rattle.set_files.specs.Files.{file_of}
+use Rattle.names.specs.Files.{file_of}
 use Rattle.set_files.proofs.Looks.{looked_one, looked_refused}
 use Rattle.survey.proofs.journals.look_at_super.Goals as goal
 use Rattle.survey.proofs.journals.look_at_super.Goals.{in-Ours, in-Other}

@@ -3,7 +3,7 @@ use Rattle.std.proofs.lemmas.Option.{MatchOption-at_some}
 use Rattle.card.specs.Meaning.{Name}
 use Rattle.super_journal.specs.Super.{LawfulNames, super_journal_bytes, lying_at}
 use Rattle.journal.specs.declared.verdict.Span.{Span}
-use Rattle.set_files.specs.Files.{file_of}
+use Rattle.names.specs.Files.{how_many, file_of}
 use Rattle.survey.specs.Finds.{NoNames, Listed, Strays}
 use Rattle.set_files.specs.Looked.{never}
 use Rattle.set_files.proofs.Looks.{looked_end, looked_refused, absent_refused, told_more}
@@ -21,7 +21,7 @@ returns-clause-told g c =
     let held = MatchOption-at_some _ _ list c.in_ok-list.ensures.ok_part c.read_names.ensures in
     let b = c.args.bytes.now in
     let file = file_of c.args.names.now in
-    let n = c.args.names.now.count in
+    let n = how_many c.args.names.now in
     let files = g.C.Card.meaning.holds c.args.card.now in
     let ns = lying_at b c.as_slice.result.now in
     let same = sym c.as_slice.ensures.is in

@@ -1,5 +1,5 @@
 use Rattle.std.proofs.Common.{inl, refl}
-use Rattle.set_files.specs.Files.{file_of}
+use Rattle.names.specs.Files.{file_of}
 use Rattle.set_files.proofs.Looks.{looked_end, looked_one, looked_refused}
 use Rattle.survey.proofs.listing.check_listed.Goals as goal
 

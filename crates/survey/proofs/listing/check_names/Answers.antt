@@ -1,7 +1,8 @@
 use Rattle.std.proofs.Common.{◌≡◌, ℕ, ◌<◌, ◌⊎◌, [], length, get_or, None, sym, ◌∙◌, subst, arith, below_more}
 use Rattle.card.specs.Meaning.{Name}
 use Rattle.super_journal.specs.Super.{lying_at}
-use Rattle.set_files.specs.Files.{Holds, Present, file_of}
+use Rattle.names.specs.Files.{how_many, file_of}
+use Rattle.set_files.specs.Files.{Holds, Present}
 use Rattle.set_files.specs.Looked.{never, never₂}
 use Rattle.set_files.proofs.Looks.{looked_end, looked_then, looked_same, looked_refused, told_up}
 use Rattle.survey.specs.Finds.{JournalName, Stray}
@@ -22,7 +23,7 @@ returns-in_err-check_listed-clause-told g c =
     let i = c.loop-span.span-index in
     let lt : i < length ps = omega arith in
     let file = file_of c.args.names.now in
-    let n = c.args.names.now.count in
+    let n = how_many c.args.names.now in
     let files = g.C.Card.meaning.holds c.args.card.now in
     let ns = lying_at b ps in
     let name : c.name_at.result.now ≡ get_or ns i [] = c.name_at.ensures ∙ sym (lying_here b ps i lt) in
@@ -47,7 +48,7 @@ loop-span-preserved g c =
     let i = c.loop-span.span-index in
     let lt : i < length ps = omega arith in
     let file = file_of c.args.names.now in
-    let n = c.args.names.now.count in
+    let n = how_many c.args.names.now in
     let files = g.C.Card.meaning.holds c.args.card.now in
     let ns = lying_at b ps in
     let name : c.name_at.result.now ≡ get_or ns i [] = c.name_at.ensures ∙ sym (lying_here b ps i lt) in

@@ -2,7 +2,8 @@ use Rattle.std.proofs.Common.{◌≡◌, ℕ, ◌-◌, List, length, take, Some,
 use native.Mathlib.Nat.{sub-zero}
 use Rattle.std.proofs.lemmas.Option.{MatchOption-at_none, MatchOption-at_some}
 use Rattle.card.specs.Meaning.{Bytes, Name}
-use Rattle.set_files.specs.Files.{Holds, file_of}
+use Rattle.names.specs.Files.{how_many, file_of}
+use Rattle.set_files.specs.Files.{Holds}
 use Rattle.survey.specs.Finds.{NoNames, Listed, Strays}
 use Rattle.set_files.specs.Looked.{never}
 use Rattle.set_files.proofs.Looks.{looked_then, looked_same, passed_up, absent_refused, told_more}
@@ -23,7 +24,7 @@ pub returns-clause-told : goal.returns-clause-told
 returns-clause-told g c =
     let t = c.in_ok-read_super.ensures.told in
     let s = MatchOption-at_some _ _ c.in_ok-length.length c.in_ok-length.ensures.ok_part t.2 in
-    let n = c.args.names.now.count in
+    let n = how_many c.args.names.now in
     let file = file_of c.args.names.now in
     let files = g.C.Card.meaning.holds c.args.card.now in
     let first = c.in_ok-read_super.ensures.looked in

@@ -1,6 +1,7 @@
 use Rattle.std.proofs.Common.{◌≡◌, ◌≤◌, length, Some, sym, refl, ap, ◌∙◌, inr, arith}
 use Rattle.refusal.specs.declared.step.Step.TheVariants.{R1}
-use Rattle.set_files.specs.Files.{Holds, file_of}
+use Rattle.names.specs.Files.{file_of}
+use Rattle.set_files.specs.Files.{Holds}
 use Rattle.set_files.proofs.Looks.{looked_one, looked_then, looked_same, looked_failed, told_some}
 use Rattle.survey.proofs.Listings.{super_read}
 use Rattle.survey.proofs.listing.read_super.Goals as goal

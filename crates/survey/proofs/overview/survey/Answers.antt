@@ -1,6 +1,7 @@
 use Rattle.std.proofs.Common.{◌≡◌, ◌≤◌, List, Some, refl, sym, ◌∙◌, subst, inl, inr, arith}
 use Rattle.card.specs.Meaning.{Bytes, Name}
-use Rattle.set_files.specs.Files.{Holds, Present, file_of}
+use Rattle.names.specs.Files.{how_many, file_of}
+use Rattle.set_files.specs.Files.{Holds, Present}
 use Rattle.set_files.proofs.Looks.{looked_then, looked_same, looked_refused, told_up}
 use Rattle.survey.specs.Finds.{DamagedAt, FirstAbsent, Damage, Stranger, NoNames, Listed, Strays}
 use Rattle.survey.specs.Linked.{AllLooked}
@@ -16,7 +17,7 @@ returns-in_err-looks-clause-looked g c =
 pub returns-in_err-looks-clause-told : goal.returns-in_err-looks-clause-told
 returns-in_err-looks-clause-told g c =
     let file = file_of c.args.names.now in
-    let n = c.args.names.now.count in
+    let n = how_many c.args.names.now in
     let files = g.C.Card.meaning.holds c.args.card.now in
     let first = c.in_ok-all_present.ensures in
     let same = looked_same _ _ _ _ _ first.looked in
@@ -40,7 +41,7 @@ returns-in-Some-clause-looked g c = looked_then _ _ _ _ _ _ _ c.in_ok-all_presen
 pub returns-in-Some-clause-told : goal.returns-in-Some-clause-told
 returns-in-Some-clause-told g c =
     let file = file_of c.args.names.now in
-    let n = c.args.names.now.count in
+    let n = how_many c.args.names.now in
     let few : n ≤ 4 = omega arith in
     let files = g.C.Card.meaning.holds c.args.card.now in
     let first = c.in_ok-all_present.ensures in
@@ -52,7 +53,7 @@ returns-in-Some-clause-told g c =
 pub check_super-requires : goal.check_super-requires
 check_super-requires g c =
     let file = file_of c.args.names.now in
-    let n = c.args.names.now.count in
+    let n = how_many c.args.names.now in
     let few : n ≤ 4 = omega arith in
     let files = g.C.Card.meaning.holds c.args.card.now in
     let first = c.in_ok-all_present.ensures in
@@ -70,7 +71,7 @@ returns-in_err-check_super-clause-looked g c =
 pub returns-in_err-check_super-clause-told : goal.returns-in_err-check_super-clause-told
 returns-in_err-check_super-clause-told g c =
     let file = file_of c.args.names.now in
-    let n = c.args.names.now.count in
+    let n = how_many c.args.names.now in
     let few : n ≤ 4 = omega arith in
     let files = g.C.Card.meaning.holds c.args.card.now in
     let first = c.in_ok-all_present.ensures in
@@ -118,7 +119,7 @@ returns-clause-looked g c =
 pub returns-clause-told : goal.returns-clause-told
 returns-clause-told g c =
     let file = file_of c.args.names.now in
-    let n = c.args.names.now.count in
+    let n = how_many c.args.names.now in
     let few : n ≤ 4 = omega arith in
     let files = g.C.Card.meaning.holds c.args.card.now in
     let first = c.in_ok-all_present.ensures in

@@ -1,5 +1,6 @@
 use Rattle.std.proofs.Common.{◌≡◌, ℕ, None, sym, refl, ◌∙◌, subst, inr, arith, below_more}
-use Rattle.set_files.specs.Files.{Holds, Present, file_of}
+use Rattle.names.specs.Files.{file_of}
+use Rattle.set_files.specs.Files.{Holds, Present}
 use Rattle.set_files.proofs.Looks.{looked_end, looked_then, looked_same, looked_one, looked_refused, told_some, told_absent, passed_up, absent_refused}
 use Rattle.survey.proofs.presence.all_present.Goals as goal
 

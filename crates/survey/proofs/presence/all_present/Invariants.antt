@@ -1,6 +1,7 @@
 use Rattle.std.proofs.Common.{ℕ, ◌<◌, Ok}
 use Rattle.refusal.specs.declared.step.Step.TheVariants.{R1}
-use Rattle.set_files.specs.Files.{file_of, Present}
+use Rattle.names.specs.Files.{file_of}
+use Rattle.set_files.specs.Files.{Present}
 use Rattle.set_files.specs.Looked.{Looked}
 use Rattle.survey.proofs.presence.all_present.Given as goal
 

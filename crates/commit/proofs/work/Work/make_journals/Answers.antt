@@ -1,7 +1,8 @@
 use Rattle.std.proofs.Common.{◌≡◌, ℕ, ◌+◌, ◌<◌, get_or, arith}
 use Rattle.std.proofs.lemmas.Result.{err_from_is_err_and}
 use Rattle.names.specs.declared.names.Names.{Names}
-use Rattle.names.proofs.Files.{a_database, a_journal, named_apart}
+use Rattle.names.proofs.Files.{database_is_file, journal_is_file, files_apart}
+use Rattle.names.specs.Files.{how_many}
 use Rattle.commit.specs.declared.work.Work.{Work}
 use Rattle.commit.specs.Works.{files}
 use Rattle.commit.proofs.Turns.{round_all}
@@ -9,10 +10,10 @@ use Rattle.commit.proofs.Making.{making_none, making_more, making_stop}
 use Rattle.commit.proofs.work.Work.make_journals.Goals as goal
 
 -- a database's name is not that of a journal
-not_journal : (w : Work) (d k : ℕ) → d < w.names.now.count → k < w.names.now.count → files w k ≡ files w (4 + d) → ⊥
+not_journal : (w : Work) (d k : ℕ) → d < how_many w.names.now → k < how_many w.names.now → files w k ≡ files w (4 + d) → ⊥
 not_journal w d k ld lk =
     let names : Names = w.names.now in
-    named_apart names.rows names.lens names.count k (4 + d) names.apart (a_database lk) (a_journal ld) (λ e. omega (arith, names.few))
+    files_apart names k (4 + d) (database_is_file (how_many names) k lk) (journal_is_file (how_many names) d ld) (λ e. omega (arith, names.few))
 
 pub loop-database-init : goal.loop-database-init
 loop-database-init g c = making_none _ _ _ _ _ _ _ _ _

@@ -1,3 +1,4 @@
+use Rattle.names.specs.Files.{how_many}
 use Rattle.journaling.specs.Plan.{super_of}
 use Rattle.commit.specs.Works.{files, listed, several}
 use Rattle.commit.proofs.Making.{Making}
@@ -5,4 +6,4 @@ use Rattle.commit.proofs.work.Work.make_journals.Given as goal
 
 abbrev pub invariant-loop-database : goal.invariant-loop-database
 invariant-loop-database g l =
-    Making g.C.Card.meaning (files l.self) l.nonce (super_of (files l.self) (several l.self)) l.self.memory.now l.sizes.rows l.self.names.now.count l.database-items l.initial.card l.database-index l.card
+    Making g.C.Card.meaning (files l.self) l.nonce (super_of (files l.self) (several l.self)) l.self.memory.now l.sizes.rows (how_many l.self.names.now) l.database-items l.initial.card l.database-index l.card

@@ -1,7 +1,10 @@
-use Rattle.std.proofs.Common.{ℕ, List, ◌++◌, ap, ◌∙◌}
-use Rattle.names.specs.Names.{super_ending}
-use Rattle.names.proofs.Rows.{whole_row}
+use Rattle.std.proofs.Common.{length, ◌∙◌, arith}
+use Rattle.names.specs.Names.{listed}
+use Rattle.names.specs.Files.{names_of}
+use Rattle.names.proofs.Files.{named_file, super_is_file, name_super}
 use Rattle.names.proofs.names.Names.super_journal.Goals as goal
 
 pub returns : goal.returns
-returns c = c.ending.ensures ∙ ap (λ (w : List ℕ). w ++ super_ending) (whole_row c.args.self.now.rows c.args.self.now.lens 0)
+returns c =
+    let names = names_of c.args.self.now in
+    c.file.ensures ∙ named_file names 8 (super_is_file (length names)) ∙ name_super (listed names) 8 (omega arith)

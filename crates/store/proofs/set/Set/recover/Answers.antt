@@ -1,5 +1,6 @@
 use Rattle.std.proofs.Common.{Result, sym, subst}
 use Rattle.card.specs.Meaning.{Meaning}
+use Rattle.names.specs.Files.{how_many}
 use Rattle.refusal.specs.declared.refusals.Refusal.{Refusal}
 use Rattle.recovery.specs.declared.report.Recovery.{Recovery}
 use Rattle.recovery.specs.Recovered.{Recovered}
@@ -19,7 +20,7 @@ returns g c =
     let d = c.restart.ensures in
     subst (λ (r : Result Recovery Refusal). Recovers m s r s') (sym d.told)
     (record {
-      recovered = subst (λ (x : g.row.C.Denot). Recovered m (file_of s) s.names.count s.card c.recover-answer.result x) (sym d.card) c.recover-answer.ensures;
+      recovered = subst (λ (x : g.row.C.Denot). Recovered m (file_of s) (how_many s.names) s.card c.recover-answer.result x) (sym d.card) c.recover-answer.ensures;
       restarted = d.restarted;
       names = d.names;
       begun = d.begun;

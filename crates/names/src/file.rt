@@ -1,0 +1,39 @@
+// The files of a list of databases, by their numbers.
+ghost use Rattle.std.specs.Prelude.{◌≡◌, ◌≤◌, false, MatchOption};
+ghost use Rattle.names.specs.Names.{is_file};
+ghost use Rattle.names.specs.Numbered.{Numbered};
+
+use crate::names::DATABASES;
+
+/// The number of the super-journal among the files.
+pub const SUPER_JOURNAL: usize = 8;
+
+/// A file that goes with a list of databases.
+#[derive(Clone, Copy)]
+pub(crate) enum File {
+    /// A database: which one.
+    Database(usize),
+    /// A database's journal: of which one.
+    Journal(usize),
+    /// The super-journal.
+    SuperJournal,
+}
+
+impl File {
+    /// The file of a number: 0 to 3 a database, 4 to 7 its journal, 8 the super-journal. There may
+    /// be none with so many databases.
+    pub(crate) fn numbered(databases: usize, number: usize) -> Option<File>
+        requires { databases ≤ 4 }
+        ensures { MatchOption result (is_file databases number ≡ false) (λ f. Numbered databases number f) }
+    {
+        if number < databases {
+            Some(File::Database(number))
+        } else if number >= DATABASES && number < DATABASES + databases {
+            Some(File::Journal(number - DATABASES))
+        } else if number == SUPER_JOURNAL {
+            Some(File::SuperJournal)
+        } else {
+            None
+        }
+    }
+}

@@ -1,0 +1,75 @@
+// The names of the files of a list, by number.
+ghost use Rattle.std.specs.Prelude.{◌≡◌, ◌<◌, ◌≤◌, ◌++◌, length as count, if◌then◌else◌, true, false, Some, None, Decides, MatchOption, nat_lt};
+ghost use Rattle.std.specs.Option.{option_map};
+ghost use Rattle.names.specs.Names.{journal_ending, super_ending, listed, held, is_file, file_name, JournalOf};
+ghost use Rattle.names.specs.Files.{names_of, file_of, how_many};
+
+use crate::file::{File, SUPER_JOURNAL};
+use crate::file_name::FileName;
+use crate::names::{DATABASES, Names};
+use few::Few;
+
+/// What the name of a journal ends with.
+const JOURNAL_ENDING: [u8; 8] = *b"-journal";
+
+/// What the name of a super-journal ends with.
+const SUPER_ENDING: [u8; 3] = *b"-mj";
+
+/// The name of the file of that number, if the list has such a file.
+pub(crate) fn name_of(list: &[Few<u8, 24>], number: usize) -> Option<FileName>
+    requires some { 1 ≤ count (held list.now) }
+    requires few { count (held list.now) ≤ 4 }
+    ensures { MatchOption result (is_file (count (held list.now)) number ≡ false) (λ f. (is_file (count (held list.now)) number ≡ true) × (f.bytes.items ≡ file_name (listed (held list.now)) number)) }
+{
+    match File::numbered(list.len(), number)? {
+        File::Database(i) => Some(FileName::ending(list[i].as_slice(), &[])),
+        File::Journal(i) => Some(FileName::ending(list[i].as_slice(), &JOURNAL_ENDING)),
+        File::SuperJournal => Some(FileName::ending(list[0].as_slice(), &SUPER_ENDING)),
+    }
+}
+
+impl Names {
+    /// How many databases there are.
+    pub fn count(&self) -> usize
+        ensures { result ≡ how_many self.now }
+    {
+        self.list.len()
+    }
+
+    /// The name of a database.
+    pub fn database(&self, i: usize) -> Option<&[u8]>
+        ensures { option_map (λ x. x.now) result ≡ (if nat_lt i (how_many self.now) then Some (listed (names_of self.now) i) else None) }
+    {
+        Some(self.list.as_slice().get(i)?.as_slice())
+    }
+
+    /// The name of a database's journal.
+    pub fn journal(&self, i: usize) -> Option<FileName>
+        ensures { MatchOption result (how_many self.now ≤ i) (λ f. (i < how_many self.now) × (f.bytes.items ≡ listed (names_of self.now) i ++ journal_ending)) }
+    {
+        let name = self.list.as_slice().get(i)?;
+        Some(FileName::ending(name.as_slice(), &JOURNAL_ENDING))
+    }
+
+    /// The name of the file of that number: 0 to 3 a database, 4 to 7 its journal, 8 the super-journal.
+    /// It is empty if the list has no such file.
+    pub fn file(&self, file: usize) -> FileName
+        ensures { result.bytes.items ≡ file_of self.now file }
+    {
+        name_of(self.list.as_slice(), file).unwrap_or(FileName::ending(&[], &[]))
+    }
+
+    /// Whether the name is that of a journal of the list.
+    pub fn is_journal(&self, name: &[u8]) -> bool
+        ensures { Decides result (JournalOf (names_of self.now) name.now) }
+    {
+        (0..self.count()).any(|i| self.file(DATABASES + i).bytes() == name)
+    }
+
+    /// The name of the super-journal.
+    pub fn super_journal(&self) -> FileName
+        ensures { result.bytes.items ≡ listed (names_of self.now) 0 ++ super_ending }
+    {
+        self.file(SUPER_JOURNAL)
+    }
+}
