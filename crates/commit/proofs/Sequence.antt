@@ -142,4 +142,4 @@ module _ {C : Type 0} (m : Meaning C) (w : Work) (nonce : ℕ) (base : List ℕ)
       Committed m (file_of names) nonce (changes (λ d. contents (m.holds c (file_of names d))) base mem (how_many names)) c r c'
   as_given names mem r c' en em e =
       subst (λ (x : Memory). Committed m (file_of names) nonce (changes (λ d. contents (m.holds c (file_of names d))) base x (how_many names)) c r c') em
-      (subst (λ (x : Names). Committed m (named x.rows x.lens x.count) nonce (changes (λ d. contents (m.holds c (named x.rows x.lens x.count d))) base w.memory.now x.count) c r c') en e)
+      (subst (λ (x : Names). Committed m (file_of x) nonce (changes (λ d. contents (m.holds c (file_of x d))) base w.memory.now (how_many x)) c r c') en e)

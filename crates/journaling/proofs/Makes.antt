@@ -56,7 +56,7 @@ module _ {C : Type 0} (m : Meaning C) (j : Journals) (d size : ℕ) (c c₁ : C)
       held : m.holds c₁ (file d) ≡ m.holds c (file d)
       held =
           let names : Names = j.names.now in
-          let apart = named_apart names.rows names.lens (how_many names) d (4 + d) names.apart (a_database listed) (a_journal listed) (λ e. omega arith) in
+          let apart = files_apart names d (4 + d) (database_is_file (how_many names) d listed) (journal_is_file (how_many names) d listed) (λ e. omega arith) in
           ((one_worked m c c₁ (record { name = file (4 + d); op = create }) created.ended).others (file d) apart).holds
 
       same_journal : journal_in old j.nonce size ch.recorded (super_of file j.linked) ≡ journal_of j.nonce (super_of file j.linked) ch
