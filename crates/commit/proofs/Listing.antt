@@ -1,23 +1,8 @@
 -- The names of the journals, put one after the other into the buffer.
-use Rattle.std.proofs.Common.{◌≡◌, ℕ, ◌+◌, ◌*◌, ◌<◌, ◌≤◌, List, [], ◌∷◌, ◌++◌, get_or, map, length, take, drop, sym, refl, ap, ◌∙◌, ap₂, arith, length-append}
-use Rattle.std.proofs.lemmas.List.{append_assoc, map-append, take_all, take_at, take_more, length-take}
+use Rattle.std.proofs.Common.{◌≡◌, ℕ, ◌+◌, ◌*◌, ◌<◌, ◌≤◌, List, [], ◌∷◌, ◌++◌, get_or, map, length, take, sym, refl, ap, ◌∙◌, ap₂, arith}
+use Rattle.std.proofs.lemmas.List.{append_assoc, map-append, take_all, take_more}
 use Rattle.card.specs.Meaning.{Bytes, Name}
-use Rattle.card.specs.Calls.{overwrite}
 use Rattle.super_journal.specs.Super.{super_journal_bytes}
-
--- what stands up to the end of bytes that were put
-take_put : (b : Bytes) (p : ℕ) (x : Bytes) → p ≤ length b → take (p + length x) (overwrite b p x) ≡ take p b ++ x
-take_put b p x le =
-    ap (take (p + length x)) (sym (append_assoc (take p b) x (drop (p + length x) b)))
-    ∙ take_at (take p b ++ x) (drop (p + length x) b) (p + length x) (length-append (take p b) x ∙ omega (arith, length-take p b))
-
--- a name is put, and then the byte that ends it
-pub put_both :
-    (b b₁ b₂ name : Bytes) (p : ℕ) → p + length name + 1 ≤ length b → length b₁ ≡ length b → b₁ ≡ overwrite b p name → b₂ ≡ overwrite b₁ (p + length name) (0 ∷ []) →
-    take (p + length name + 1) b₂ ≡ take p b ++ (name ++ (0 ∷ []))
-put_both b b₁ b₂ name p room same e₁ e₂ =
-    ap (take (p + length name + 1)) e₂ ∙ take_put b₁ (p + length name) (0 ∷ []) (omega (arith, same))
-    ∙ ap (λ (x : Bytes). x ++ (0 ∷ [])) (ap (take (p + length name)) e₁ ∙ take_put b p name (omega arith)) ∙ append_assoc (take p b) name (0 ∷ [])
 
 super_append : (ms ns : List Name) → super_journal_bytes (ms ++ ns) ≡ super_journal_bytes ms ++ super_journal_bytes ns
 unfolding super_journal_bytes

@@ -1,4 +1,7 @@
 // Rounds through the databases that a commit changes, in order.
+//
+// Each is a short `for`: one round for all, over a closure, would have to say by clauses when the closure
+// may be called and what it leaves at each turn.
 ghost use Rattle.std.specs.Prelude.{◌≡◌, ℕ, ◌+◌, ◌<◌, List, [], ◌∷◌};
 ghost use Rattle.card.specs.Calls.Op.{delete as deletes};
 ghost use Rattle.names.specs.Files.{how_many};

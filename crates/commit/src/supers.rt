@@ -16,6 +16,7 @@ use names::{DATABASES, SUPER_JOURNAL};
 use refusal::{SetFault, Step};
 use steps::Site;
 
+// `put_names` of `super_journal` wants all names at once, as a list of slices; here each is made in its turn
 /// Puts a name into the buffer at a place, with the zero byte that ends it, and tells where it ends.
 fn put_ended(buffer: &mut [u8; JOURNAL_LIMIT], place: usize, name: &[u8]) -> usize
     requires { place + count_of name.now + 1 ≤ 17724 }
@@ -76,10 +77,11 @@ impl Work<'_> {
     pub fn drop_journals<C: Card>(&self, card: &mut C) -> usize
         ensures { Dropped C.Card.meaning (if several self.now then map (λ d. record { name = files self.now (4 + d); op = deletes }) (listed self.now) else []) card.old result card.new }
     {
-        let mut left = 0;
         if !self.many() {
-            return left;
+            return 0;
         }
+        let mut left = 0;
+        // a loop: of what the closure of a `filter` did to the card a proof learns nothing
         for database in self.changed() {
             let journal = self.names.file(DATABASES + *database);
             if card.delete(journal.bytes()).is_err() {
