@@ -3,6 +3,7 @@
 /// A changed page: of which database, which page, and what it holds now.
 #[derive(Clone, Copy)]
 pub struct ChangedPage {
+    // no struct of database and page: each call and clause has them as two, and a test of both is a line
     pub database: usize,
     pub page: u32,
     pub bytes: [u8; 512],

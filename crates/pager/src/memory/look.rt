@@ -24,13 +24,14 @@ impl Memory {
         ensures empty { (result.changed.rows.items ≡ []) × (result.saved.rows.items ≡ []) }
         ensures view { (files : ℕ → List ℕ) → Stored files sizes → view files result ≡ cleared files }
     {
+        let levels = Few::new([0; 4]);
         Memory {
             count: count.min(DATABASES),
             sizes,
             maps: [PageMap::new(); 4],
             changed: ChangedPages::new(),
             saved: SavedPages::new(),
-            levels: Few::new([0; 4]),
+            levels,
         }
     }
 
