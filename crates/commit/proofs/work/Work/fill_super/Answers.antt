@@ -1,5 +1,4 @@
 use Rattle.std.proofs.Common.{◌≡◌, ℕ, ◌+◌, ◌≤◌, [], ◌∷◌, ◌++◌, get_or, length, take, sym, ap, ◌∙◌, subst, arith}
-use Rattle.std.proofs.lemmas.List.{length-take}
 use Rattle.card.specs.Meaning.{Bytes, Name}
 use Rattle.commit.specs.Works.{files}
 use Rattle.commit.proofs.Listing.{Listing, listing_none, listing_more, listing_all}
@@ -10,7 +9,7 @@ loop-database-init c = listing_none _ _ _
 
 pub put_ended-end-requires : goal.put_ended-end-requires
 put_ended-end-requires c =
-    omega (arith, c.loop-database.invariant.few, c.changed-database-items.ensures.few, ap length c.bytes.ensures, length-take c.file-journal.result.length c.file-journal.result.row, c.file-journal.result.short)
+    omega (arith, c.loop-database.invariant.few, c.changed-database-items.ensures.few, ap length c.bytes.ensures, c.file-journal.result.short)
 
 pub loop-database-preserved : goal.loop-database-preserved
 loop-database-preserved c =
@@ -23,7 +22,7 @@ loop-database-preserved c =
     let at : c.put_ended-end.result ≡ end + length name + 1 = c.put_ended-end.ensures.end ∙ ap (λ (x : Bytes). end + length x + 1) is in
     let put : take (end + length name + 1) new ≡ take end c.loop-database.buffer ++ (name ++ (0 ∷ [])) =
     ap (λ (k : ℕ). take k new) (sym at) ∙ c.put_ended-end.ensures.put ∙ ap (λ (x : Bytes). take end c.loop-database.buffer ++ (x ++ (0 ∷ []))) is in
-    let short : length name ≤ 32 = omega (arith, ap length is, ap length c.bytes.ensures, length-take c.file-journal.result.length c.file-journal.result.row, c.file-journal.result.short) in
+    let short : length name ≤ 32 = omega (arith, ap length is, ap length c.bytes.ensures, c.file-journal.result.short) in
     subst (λ (k : ℕ). Listing (λ d. files c.args.self.now (4 + d)) list (i + 1) new k) (sym at)
     (listing_more (λ d. files c.args.self.now (4 + d)) list i c.loop-database.buffer new end c.loop-database-test.true short c.loop-database.invariant put)
 
