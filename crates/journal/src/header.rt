@@ -5,10 +5,9 @@ ghost use Rattle.card.specs.Numbers.{number_at};
 ghost use Rattle.journal.specs.Judged.{spent, header_right, length_fits};
 ghost use Rattle.journal.specs.Fronts.{Reads, Apart, front_right};
 
-use crate::layout::{
-    PAGE, PAGE_LIMIT, RECORD_LIMIT, SECTOR, SUPER_EXTRA, has_magic, is_blank, number, record_place,
-};
+use crate::layout::{RECORD_LIMIT, SECTOR, SUPER_EXTRA, has_magic, is_blank, number, record_place};
 use card::NAME_LIMIT;
+use page_map::{PAGE, PAGE_LIMIT};
 
 /// The numbers of a right header that journals differ in.
 #[derive(Clone, Copy)]

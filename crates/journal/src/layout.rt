@@ -4,17 +4,11 @@ ghost use Rattle.std.specs.Str.{bytes_eq};
 ghost use Rattle.card.specs.Numbers.{number_at};
 ghost use Rattle.journal.specs.Format.{checksum as checksum_of, magic};
 
-/// The bytes of a page.
-pub const PAGE: usize = 512;
-
 /// The bytes of a sector, and so of a header.
 pub const SECTOR: usize = 512;
 
 /// The bytes of a page record: the page's number, the page, the checksum.
 pub const RECORD: usize = 520;
-
-/// The most pages that a database has.
-pub const PAGE_LIMIT: u32 = 4096;
 
 /// The most records that a journal has.
 pub const RECORD_LIMIT: u32 = 33;

@@ -16,9 +16,9 @@ mod verdict;
 
 pub use fault::JournalFault;
 pub use layout::{
-    BLANK, MAGIC, PAGE, PAGE_LIMIT, RECORD, RECORD_LIMIT, SECTOR, SUPER_EXTRA, SUPER_PAGE,
-    checksum, record_place,
+    BLANK, MAGIC, RECORD, RECORD_LIMIT, SECTOR, SUPER_EXTRA, SUPER_PAGE, checksum, record_place,
 };
 pub use named::byte_sum;
+pub use page_map::{PAGE, PAGE_LIMIT};
 pub use stored::{JOURNAL_LIMIT, judge_file};
 pub use verdict::{Sound, Span, Verdict, judge};

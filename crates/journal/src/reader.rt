@@ -4,8 +4,9 @@ ghost use Rattle.card.specs.Calls.{part};
 ghost use Rattle.journal.specs.Judged.{record_place as place_of, page_of, page_bytes};
 ghost use Rattle.journal.specs.Read.{has_record, within, lying, NumberTold, PageTold, NameTold};
 
-use crate::layout::{PAGE, RECORD, number, record_place};
+use crate::layout::{RECORD, number, record_place};
 use crate::verdict::{Sound, Span};
+use page_map::PAGE;
 
 impl Span {
     /// What lies there, if the bytes have it.

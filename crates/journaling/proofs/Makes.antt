@@ -11,10 +11,10 @@ use Rattle.names.specs.declared.names.Names.{Names}
 use Rattle.names.proofs.Files.{database_is_file, journal_is_file, files_apart}
 use Rattle.refusal.specs.declared.fault.SetFault.{SetFault}
 use Rattle.refusal.specs.declared.step.Step.TheVariants.{C2}
-use Rattle.steps.specs.Tasks.{Task, tasks, Went}
+use Rattle.steps.specs.Tasks.{Task, tasks, Went, at}
 use Rattle.steps.proofs.Went.{went_then, went_stop}
 use Rattle.journaling.specs.declared.journals.Journals.{Journals}
-use Rattle.journaling.specs.Plan.{Change, original, journal_of, read_tasks, at, call, journal_tasks, super_of}
+use Rattle.journaling.specs.Plan.{Change, original, journal_of, read_tasks, call, journal_tasks, super_of}
 use Rattle.journaling.specs.Changes.{contents}
 use Rattle.journaling.specs.Buffers.{RecordedIn}
 use Rattle.journaling.specs.Made.{files, recorded_by}

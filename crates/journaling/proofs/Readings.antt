@@ -10,10 +10,10 @@ use Rattle.journal_writer.specs.Written.{originals}
 use Rattle.journal.proofs.Pieces.{length_part}
 use Rattle.refusal.specs.declared.fault.SetFault.{SetFault}
 use Rattle.refusal.specs.declared.step.Step.TheVariants.{C2}
-use Rattle.steps.specs.Tasks.{Task, task, Went}
+use Rattle.steps.specs.Tasks.{Task, task, Went, at_record}
 use Rattle.steps.proofs.Went.{went_end, went_then, went_stop}
 use Rattle.steps.proofs.Held.{look_holds}
-use Rattle.journaling.specs.Plan.{place, original, at_record, read_tasks}
+use Rattle.journaling.specs.Plan.{place, original, read_tasks}
 use Rattle.journaling.specs.Changes.{contents}
 use Rattle.journaling.specs.Buffers.{Copied, RecordedIn}
 use Rattle.journaling.proofs.Copies.{one_worked, lay_in}

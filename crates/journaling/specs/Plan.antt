@@ -10,7 +10,7 @@ use Rattle.journal_writer.specs.OnCard.{store_acts}
 use Rattle.refusal.specs.declared.step.Step.{Step}
 use Rattle.refusal.specs.declared.step.Step.TheVariants.{C1, C2, C3, C4}
 use Rattle.steps.specs.declared.site.Site.{Site}
-use Rattle.steps.specs.Tasks.{Task, task, tasks}
+use Rattle.steps.specs.Tasks.{Task, task, tasks, at, at_record}
 
 -- one database that a commit changes: its number, what its file holds, its size in pages at the start,
 -- the pages that its journal records, and the changed pages in ascending order
@@ -36,12 +36,6 @@ journal_of nonce super ch = record { nonce = nonce; size = ch.size; records = ma
 unfoldable pub for_each : {A : Type 0} → (A → List Task) → List A → List Task
 for_each f [] = []
 for_each f (x ∷ xs) = f x ++ for_each f xs
-
-abbrev pub at : Step → ℕ → Site
-at step k = record { step = Some step; file = k; «record» = 0 }
-
-abbrev pub at_record : Step → ℕ → ℕ → Site
-at_record step k n = record { step = Some step; file = k; «record» = n }
 
 -- two or more databases change
 abbrev pub many : List Change → Bool

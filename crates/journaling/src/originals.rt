@@ -3,8 +3,8 @@ ghost use Rattle.std.specs.Prelude.{◌≡◌, ℕ, ◌+◌, ◌*◌, ◌<◌, �
 ghost use Rattle.card.specs.Calls.Op.{read as reads};
 ghost use Rattle.journal_writer.specs.Written.{originals};
 ghost use Rattle.refusal.specs.declared.step.Step.TheVariants.{C2};
-ghost use Rattle.steps.specs.Tasks.{Went, task};
-ghost use Rattle.journaling.specs.Plan.{at_record, place as place_of, original, read_tasks};
+ghost use Rattle.steps.specs.Tasks.{Went, task, at_record};
+ghost use Rattle.journaling.specs.Plan.{place as place_of, original, read_tasks};
 ghost use Rattle.journaling.specs.Changes.{contents};
 ghost use Rattle.journaling.specs.Buffers.{Copied, RecordedIn, PagesOk};
 

@@ -1,9 +1,13 @@
-// A set of pages as a map of 4,096 bits.
+// The pages of a database: how long one is, how many there are at the most, and a set of them as a map
+// of 4,096 bits.
 #![tactic(auto)]
 
 ghost use Rattle.std.specs.Prelude.{◌≡◌, ℕ, false, length, if◌then◌else◌, MatchOption};
 ghost use Rattle.page_map.specs.Sets.{is_page, including, without, counted, NoneAbove, NextAbove, VisitLaw};
 ghost use Rattle.page_map.specs.Words.{pages_of};
+
+/// The bytes of a page.
+pub const PAGE: usize = 512;
 
 /// The most pages of a database; the first page is 1.
 pub const PAGE_LIMIT: u32 = 4096;

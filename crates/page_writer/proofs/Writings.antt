@@ -12,9 +12,9 @@ use Rattle.pager.specs.Sound.{map_of}
 use Rattle.pager.specs.View.{fields, file_page, or_file, page_now}
 use Rattle.refusal.specs.declared.fault.SetFault.{SetFault}
 use Rattle.refusal.specs.declared.step.Step.TheVariants.{C3}
-use Rattle.steps.specs.Tasks.{Task, task, Went}
+use Rattle.steps.specs.Tasks.{Task, task, Went, at}
 use Rattle.steps.proofs.Went.{went_end, went_then, went_stop}
-use Rattle.journaling.specs.Plan.{place, at, write_tasks}
+use Rattle.journaling.specs.Plan.{place, write_tasks}
 use Rattle.journaling.specs.Changes.{page_held, pages_held}
 
 write_append : (n : Name) (d : ℕ) (xs ys : List PageRecord) → write_tasks n d (xs ++ ys) ≡ write_tasks n d xs ++ write_tasks n d ys

@@ -31,7 +31,7 @@ use Rattle.refusal.specs.declared.refusals.Refusal.TheVariants.{
   Card,
 }
 use Rattle.steps.specs.declared.site.Site.{Site}
-use Rattle.steps.specs.Tasks.{Task, task, tasks, acts, Looks, Went}
+use Rattle.steps.specs.Tasks.{Task, task, tasks, acts, Looks, Went, at}
 use Rattle.steps.proofs.Went.{went_then, went_end}
 use Rattle.steps.proofs.Held.{looked_files, all_append}
 use Rattle.set_files.specs.Looked.{Looking, Looked, ended, dropped, stop_of, Told, Says}
@@ -62,7 +62,7 @@ module _ {C : Type 0} (m : Meaning C) (step : Step) (file : ℕ → Name) where
 
   -- one look
   pub looked_one :
-      {V : Type 0} (c c₁ : C) (s : Site) (k : ℕ) (n : Name) (op : Op) (r : Result V SetFault) → s ≡ record { step = Some step; file = k; «record» = 0 } → Looks op →
+      {V : Type 0} (c c₁ : C) (s : Site) (k : ℕ) (n : Name) (op : Op) (r : Result V SetFault) → s ≡ at step k → Looks op →
       ((k ≡ 9) ⊎ (n ≡ file k)) → Went m (task s n op ∷ []) c r c₁ → Looked m step file c (ended r) c₁
   looked_one c c₁ s k n op r e l w q =
       record {
@@ -74,7 +74,7 @@ module _ {C : Type 0} (m : Meaning C) (step : Step) (file : ℕ → Name) where
         went = went_ended (task s n op ∷ []) c c₁ r q;
       }
 
-  looking_tasks : (k : ℕ) (n : Name) (list : List Act) → ((k ≡ 9) ⊎ (n ≡ file k)) → AllByRecursion (λ a. (a.name ≡ n) × Looks a.op) list → AllByRecursion (Looking step file) (tasks (record { step = Some step; file = k; «record» = 0 }) list)
+  looking_tasks : (k : ℕ) (n : Name) (list : List Act) → ((k ≡ 9) ⊎ (n ≡ file k)) → AllByRecursion (λ a. (a.name ≡ n) × Looks a.op) list → AllByRecursion (Looking step file) (tasks (at step k) list)
   looking_tasks k n [] w a = tt
   looking_tasks k n (x ∷ list) w a = (record { in_step = refl; no_record = refl; looks = a.0.1; named = by w }, looking_tasks k n list w a.1)
     where
@@ -84,7 +84,7 @@ module _ {C : Type 0} (m : Meaning C) (step : Step) (file : ℕ → Name) where
 
   -- several looks at one file
   pub looked_acts :
-      {V : Type 0} (c c₁ : C) (s : Site) (k : ℕ) (n : Name) (list : List Act) (r : Result V SetFault) → s ≡ record { step = Some step; file = k; «record» = 0 } →
+      {V : Type 0} (c c₁ : C) (s : Site) (k : ℕ) (n : Name) (list : List Act) (r : Result V SetFault) → s ≡ at step k →
       ((k ≡ 9) ⊎ (n ≡ file k)) → AllByRecursion (λ a. (a.name ≡ n) × Looks a.op) list → Went m (tasks s list) c r c₁ → Looked m step file c (ended r) c₁
   looked_acts c c₁ s k n list r e w a q =
       record {
@@ -160,9 +160,9 @@ judge_looks n (Some b) = ((refl, tt), ((refl, tt), tt))
 module _ {C : Type 0} (m : Meaning C) (step : Step) (file : ℕ → Name) where
   -- a journal that is judged is only looked at
   pub looked_judged :
-      {V : Type 0} (c c₁ : C) (k : ℕ) (f : Option Bytes) (r : Result V SetFault) → Went m (tasks (record { step = Some step; file = k; «record» = 0 }) (judge_acts (file k) f)) c r c₁ →
+      {V : Type 0} (c c₁ : C) (k : ℕ) (f : Option Bytes) (r : Result V SetFault) → Went m (tasks (at step k) (judge_acts (file k) f)) c r c₁ →
       Looked m step file c (ended r) c₁
-  looked_judged c c₁ k f r w = looked_acts m step file c c₁ (record { step = Some step; file = k; «record» = 0 }) k (file k) (judge_acts (file k) f) r refl (inr refl) (judge_looks (file k) f) w
+  looked_judged c c₁ k f r w = looked_acts m step file c c₁ (at step k) k (file k) (judge_acts (file k) f) r refl (inr refl) (judge_looks (file k) f) w
 
   -- what was refused, and passed up
   pub looked_failed : {V : Type 0} (c c₁ : C) (f : SetFault) (r : Result V SetFault) → IsErrAnd r (λ x. x ≡ f) → Looked m step file c (Err f) c₁ → Looked m step file c (ended r) c₁

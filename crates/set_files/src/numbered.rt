@@ -4,7 +4,7 @@
 ghost use Rattle.std.specs.Prelude.{[], ◌∷◌, Some};
 ghost use Rattle.card.specs.Calls.Op.{length_of, delete as deletes};
 ghost use Rattle.journal.specs.OnCard.{judge_acts};
-ghost use Rattle.steps.specs.Tasks.{Went, task, tasks, ToldLength};
+ghost use Rattle.steps.specs.Tasks.{Went, task, tasks, ToldLength, at};
 ghost use Rattle.names.specs.Files.{file_of};
 ghost use Rattle.set_files.specs.Files.{ToldVerdict};
 
@@ -21,7 +21,7 @@ pub fn length_of<C: Card>(
     step: Step,
     file: usize,
 ) -> Result<Option<u32>, SetFault>
-    ensures went { Went C.Card.meaning (task (record { step = Some step; file = file; «record» = 0 }) (file_of names.now file) length_of ∷ []) card.old result card.new }
+    ensures went { Went C.Card.meaning (task (at step file) (file_of names.now file) length_of ∷ []) card.old result card.new }
     ensures told { ToldLength (C.Card.meaning.holds card.old (file_of names.now file)) result }
 {
     Site::new(step, file).length(card, names.file(file).bytes())
@@ -34,7 +34,7 @@ pub fn delete_file<C: Card>(
     step: Step,
     file: usize,
 ) -> Result<(), SetFault>
-    ensures { Went C.Card.meaning (task (record { step = Some step; file = file; «record» = 0 }) (file_of names.now file) deletes ∷ []) card.old result card.new }
+    ensures { Went C.Card.meaning (task (at step file) (file_of names.now file) deletes ∷ []) card.old result card.new }
 {
     Site::new(step, file).delete(card, names.file(file).bytes())
 }
@@ -47,7 +47,7 @@ pub fn judge_numbered<C: Card>(
     file: usize,
     buffer: &mut [u8; JOURNAL_LIMIT],
 ) -> Result<Option<Verdict>, SetFault>
-    ensures went { Went C.Card.meaning (tasks (record { step = Some step; file = file; «record» = 0 }) (judge_acts (file_of names.now file) (C.Card.meaning.holds card.old (file_of names.now file)))) card.old result card.new }
+    ensures went { Went C.Card.meaning (tasks (at step file) (judge_acts (file_of names.now file) (C.Card.meaning.holds card.old (file_of names.now file)))) card.old result card.new }
     ensures told { ToldVerdict (C.Card.meaning.holds card.old (file_of names.now file)) buffer.old result buffer.new }
 {
     Site::new(step, file).told(judge_file(card, names.file(file).bytes(), buffer))

@@ -8,7 +8,7 @@ use Rattle.journal.specs.Format.{Journal, LawfulJournal, full}
 use Rattle.names.specs.declared.names.Names.{Names}
 use Rattle.refusal.specs.declared.fault.SetFault.{SetFault}
 use Rattle.refusal.specs.declared.step.Step.TheVariants.{R3}
-use Rattle.steps.specs.Tasks.{task, acts, Went}
+use Rattle.steps.specs.Tasks.{task, acts, Went, at}
 use Rattle.steps.proofs.Went.{acts_append, went_stop, went_end}
 use Rattle.steps.proofs.Held.{leaves_append, left_holds}
 use Rattle.survey.specs.declared.report.Found.{Found}
@@ -16,7 +16,7 @@ use Rattle.survey.specs.declared.report.Found.TheVariants.{None as FoundNone, Ho
 use Rattle.names.specs.Files.{how_many, file_of}
 use Rattle.set_files.specs.Files.{Holds}
 use Rattle.survey.specs.Seen.{Seen, none, spent, hot, SeenAs, FoundOf, Stands}
-use Rattle.settling.specs.Settled.{site, record_task, write_tasks, finish_tasks, restore_tasks, all_tasks, super_tasks}
+use Rattle.settling.specs.Settled.{record_task, write_tasks, finish_tasks, restore_tasks, all_tasks, super_tasks}
 use Rattle.names.proofs.Files.{database_is_file, journal_is_file, super_is_file, files_apart}
 use Rattle.settling.proofs.UpTo.{up_leaves}
 
@@ -50,9 +50,9 @@ module _ {C : Type 0} (m : Meaning C) (file : ℕ → Name) where
       by (hot j) h = absurd h
 
   -- a refused look at the super-journal
-  pub super_stop : (c c₁ : C) (f : Option Bytes) (e : SetFault) → Went m {V = Option ℕ} (task (site R3 8 0) (file 8) length_of ∷ []) c (Err e) c₁ → Went m {V = Unit {0}} (super_tasks file f) c (Err e) c₁
+  pub super_stop : (c c₁ : C) (f : Option Bytes) (e : SetFault) → Went m {V = Option ℕ} (task (at R3 8) (file 8) length_of ∷ []) c (Err e) c₁ → Went m {V = Unit {0}} (super_tasks file f) c (Err e) c₁
   super_stop c c₁ None e w = record { ended = w.ended; origins = w.origins }
-  super_stop c c₁ (Some b) e w = went_stop m {V = Option ℕ} {W = Unit {0}} (task (site R3 8 0) (file 8) length_of ∷ []) _ c c₁ e w
+  super_stop c c₁ (Some b) e w = went_stop m {V = Option ℕ} {W = Unit {0}} (task (at R3 8) (file 8) length_of ∷ []) _ c c₁ e w
 
 module _ {C : Type 0} (m : Meaning C) (s : Names) (seen : ℕ → Seen) where
   -- no database or journal before the d-th is its journal

@@ -8,11 +8,8 @@ use Rattle.journal.specs.OnCard.{judge_acts}
 use Rattle.refusal.specs.declared.step.Step.{Step}
 use Rattle.refusal.specs.declared.step.Step.TheVariants.{R2, R3}
 use Rattle.steps.specs.declared.site.Site.{Site}
-use Rattle.steps.specs.Tasks.{Task, task, tasks}
+use Rattle.steps.specs.Tasks.{Task, task, tasks, at, at_record}
 use Rattle.survey.specs.Seen.{Seen, none, spent, hot}
-
-abbrev pub site : Step → ℕ → ℕ → Site
-site step k entry = record { step = Some step; file = k; «record» = entry }
 
 -- the lists of the indices below n, in order
 unfoldable pub up_to : (ℕ → List Task) → ℕ → List Task
@@ -21,28 +18,28 @@ up_to f (suc k) = up_to f k ++ f k
 
 -- the page of the record k, from 0, goes back to its place; the record is told from 1
 abbrev pub record_task : (ℕ → Name) → ℕ → Journal → ℕ → Task
-record_task file d j k = task (site R2 d (k + 1)) (file d) (write (((record_of j.records k).page - 1) * 512) (record_of j.records k).bytes)
+record_task file d j k = task (at_record R2 d (k + 1)) (file d) (write (((record_of j.records k).page - 1) * 512) (record_of j.records k).bytes)
 
 -- then the database has its first size, is made safe, and its journal goes
 abbrev pub finish_tasks : (ℕ → Name) → ℕ → ℕ → List Task
 finish_tasks file d size =
-    task (site R2 d 0) (file d) (set_length (size * 512)) ∷ task (site R2 d 0) (file d) sync ∷ task (site R2 (4 + d) 0) (file (4 + d)) delete ∷ []
+    task (at R2 d) (file d) (set_length (size * 512)) ∷ task (at R2 d) (file d) sync ∷ task (at R2 (4 + d)) (file (4 + d)) delete ∷ []
 
 abbrev pub write_tasks : (ℕ → Name) → ℕ → Journal → List Task
 write_tasks file d j = up_to (λ k. record_task file d j k ∷ []) (length j.records)
 
 abbrev pub hot_tasks : (ℕ → Name) → ℕ → Journal → List Task
-hot_tasks file d j = tasks (site R2 (4 + d) 0) (judge_acts (file (4 + d)) (Some (full j))) ++ (write_tasks file d j ++ finish_tasks file d j.size)
+hot_tasks file d j = tasks (at R2 (4 + d)) (judge_acts (file (4 + d)) (Some (full j))) ++ (write_tasks file d j ++ finish_tasks file d j.size)
 
 abbrev pub restore_tasks : (ℕ → Name) → ℕ → Seen → List Task
 restore_tasks file d none = []
-restore_tasks file d spent = task (site R2 (4 + d) 0) (file (4 + d)) delete ∷ []
+restore_tasks file d spent = task (at R2 (4 + d)) (file (4 + d)) delete ∷ []
 restore_tasks file d (hot j) = hot_tasks file d j
 
 -- the super-journal is deleted if it is present
 abbrev pub super_tasks : (ℕ → Name) → Option Bytes → List Task
-super_tasks file None = task (site R3 8 0) (file 8) length_of ∷ []
-super_tasks file (Some b) = task (site R3 8 0) (file 8) length_of ∷ task (site R3 8 0) (file 8) delete ∷ []
+super_tasks file None = task (at R3 8) (file 8) length_of ∷ []
+super_tasks file (Some b) = task (at R3 8) (file 8) length_of ∷ task (at R3 8) (file 8) delete ∷ []
 
 abbrev pub all_tasks : (ℕ → Name) → ℕ → (ℕ → Seen) → List Task
 all_tasks file n seen = up_to (λ d. restore_tasks file d (seen d)) n

@@ -6,9 +6,9 @@ ghost use Rattle.journal.specs.Format.{Journal, LawfulJournal, full};
 ghost use Rattle.journal.specs.Judged.{Parts};
 ghost use Rattle.journal.specs.OnCard.{judge_acts};
 ghost use Rattle.journal.specs.Read.{Of};
-ghost use Rattle.steps.specs.Tasks.{Went, tasks};
+ghost use Rattle.steps.specs.Tasks.{Went, tasks, at};
 ghost use Rattle.names.specs.Files.{file_of};
-ghost use Rattle.settling.specs.Settled.{site as place_of, record_task, write_tasks, finish_tasks, hot_tasks};
+ghost use Rattle.settling.specs.Settled.{record_task, write_tasks, finish_tasks, hot_tasks};
 
 use card::Card;
 use journal::{JOURNAL_LIMIT, PAGE, Sound, Verdict};
@@ -82,7 +82,7 @@ fn reread<C: Card>(
 ) -> Result<Sound, SetFault>
     requires few { d < 4 }
     requires hot { (j : Journal) × LawfulJournal j × (C.Card.meaning.holds card.old (file_of names.now (4 + d)) ≡ Some (full j)) }
-    ensures went { (j : Journal) → LawfulJournal j → C.Card.meaning.holds card.old (file_of names.now (4 + d)) ≡ Some (full j) → Went C.Card.meaning (tasks (place_of R2 (4 + d) 0) (judge_acts (file_of names.now (4 + d)) (Some (full j)))) card.old result card.new }
+    ensures went { (j : Journal) → LawfulJournal j → C.Card.meaning.holds card.old (file_of names.now (4 + d)) ≡ Some (full j) → Went C.Card.meaning (tasks (at R2 (4 + d)) (judge_acts (file_of names.now (4 + d)) (Some (full j)))) card.old result card.new }
     ensures told { IfOk result (λ s. (j : Journal) → LawfulJournal j → C.Card.meaning.holds card.old (file_of names.now (4 + d)) ≡ Some (full j) → Parts s j × (buffer.new ≡ overwrite buffer.old 0 (full j))) }
 {
     // In two steps: where one pattern for both fails, a proof learns nothing of the verdict.

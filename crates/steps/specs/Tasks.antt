@@ -8,7 +8,16 @@ use Rattle.card.specs.Calls.{Op, length_of, read, create, write, set_length, syn
 use Rattle.card.specs.Runs.{Act, through, Runs}
 use Rattle.journal.specs.declared.fault.JournalFault.{JournalFault}
 use Rattle.refusal.specs.declared.fault.SetFault.{SetFault}
+use Rattle.refusal.specs.declared.step.Step.{Step}
 use Rattle.steps.specs.declared.site.Site.{Site}
+
+-- a file, in a step
+abbrev pub at : Step → ℕ → Site
+at step file = record { step = Some step; file = file; «record» = 0 }
+
+-- the same, for a page record
+abbrev pub at_record : Step → ℕ → ℕ → Site
+at_record step file k = record { step = Some step; file = file; «record» = k }
 
 pub record Task : Type 0 where
   pub site : Site

@@ -1,6 +1,6 @@
 // Where a call of the card stands in the work of a set.
-ghost use Rattle.std.specs.Prelude.{◌≡◌, Some, None};
-ghost use Rattle.steps.specs.Tasks.{told_journal, told_card};
+ghost use Rattle.std.specs.Prelude.{◌≡◌, None};
+ghost use Rattle.steps.specs.Tasks.{at, at_record, told_journal, told_card};
 
 use card::CardFault;
 use journal::JournalFault;
@@ -18,14 +18,14 @@ pub struct Site {
 impl Site {
     /// A file, in a step.
     pub fn new(step: Step, file: usize) -> Site
-        ensures { result ≡ record { step = Some step; file = file; «record» = 0 } }
+        ensures { result ≡ at step file }
     {
         Site::of_record(step, file, 0)
     }
 
     /// A file, in a step, for a page record.
     pub fn of_record(step: Step, file: usize, record: u32) -> Site
-        ensures { result ≡ record { step = Some step; file = file; «record» = «record» } }
+        ensures { result ≡ at_record step file «record» }
     {
         Site {
             step: Some(step),

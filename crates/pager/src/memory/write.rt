@@ -11,10 +11,7 @@ use crate::memory::Memory;
 use crate::refusal::Refusal;
 use crate::saved_page::{SavedPage, Was};
 use crate::saved_pages::SavedPages;
-use page_map::PAGE_LIMIT;
-
-/// The bytes of a page.
-pub const PAGE_SIZE: usize = 512;
+use page_map::{PAGE, PAGE_LIMIT};
 
 impl Memory {
     /// Whether the page is one of the database's, or the next one.
@@ -82,7 +79,7 @@ impl Memory {
         ensures { refused result ≡ write_refusal self.now database page length }
     {
         self.known(database)?;
-        if length != PAGE_SIZE {
+        if length != PAGE {
             return Err(Refusal::BufferLength);
         }
         if !self.is_allowed(database, page) {
@@ -108,7 +105,7 @@ impl Memory {
         ensures saved { refused result ≡ None → (fields self.new).saved ≡ saved_first self.old database page }
     {
         self.admit(database, page, bytes.len())?;
-        let mut row = [0u8; PAGE_SIZE];
+        let mut row = [0u8; PAGE];
         row.copy_from_slice(bytes);
         let was = self.was(database, page);
         let saved = self.saved_first(database, page, was);

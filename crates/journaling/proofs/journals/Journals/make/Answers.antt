@@ -4,8 +4,8 @@ use Rattle.card.specs.Calls.{create}
 use Rattle.journal_writer.specs.Written.{pages_lawful}
 use Rattle.pager.proofs.Counted.{changed_few}
 use Rattle.refusal.specs.declared.step.Step.TheVariants.{C2}
+use Rattle.steps.specs.Tasks.{at}
 use Rattle.steps.proofs.Went.{went_as, went_acted}
-use Rattle.journaling.specs.Plan.{at}
 use Rattle.journaling.specs.Made.{files}
 use Rattle.journaling.specs.Buffers.{PagesOk}
 use Rattle.journaling.proofs.Recorded.{recorded_ok}
