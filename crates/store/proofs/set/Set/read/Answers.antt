@@ -6,8 +6,8 @@ use Rattle.store.specs.Reads.{read_refusal, Reads}
 use Rattle.store.proofs.Shown.{shown}
 use Rattle.store.proofs.set.Set.read.Goals as goal
 
-pub returns-in-Some-get : goal.returns-in-Some-get
-returns-in-Some-get g c =
+pub returns-in-Some : goal.returns-in-Some
+returns-in-Some g c =
     let m : Meaning g.row.C.Denot = g.C.Card.meaning in
     let self = c.args.self.now in
     let old : List ℕ = c.args.buffer.now in
