@@ -1,1 +1,2 @@
 mod InPages
+mod Parts

@@ -11,25 +11,7 @@ use Rattle.journal.specs.OnCard.{judge_acts}
 use Rattle.refusal.specs.declared.step.Step.{Step}
 use Rattle.refusal.specs.declared.fault.SetFault.{SetFault}
 use Rattle.refusal.specs.declared.refusals.Refusal.{Refusal}
-use Rattle.refusal.specs.declared.refusals.Refusal.TheVariants.{
-  NameCount,
-  NameLength,
-  NameByte,
-  NamesEqual,
-  Cold,
-  Transaction,
-  NoDatabase,
-  BufferLength,
-  Page,
-  ChangedFull,
-  SavedFull,
-  SavepointsFull,
-  NoSavepoint,
-  Damaged,
-  Foreign,
-  Database,
-  Card,
-}
+use Rattle.refusal.specs.declared.refusals.Refusal.TheVariants.{Damaged, Foreign, Database, Card}
 use Rattle.steps.specs.declared.site.Site.{Site}
 use Rattle.steps.specs.Tasks.{Task, task, tasks, acts, Looks, Went, at}
 use Rattle.steps.proofs.Went.{went_then, went_end}
@@ -101,23 +83,11 @@ passed_up {T} {E} r e h = let p = err_from_is_err_and r h in p.1 ∙ ap (λ (x :
 says_more :
     (e : Refusal) (damaged damaged' : ℕ → ℕ → Type 0) (foreign foreign' bad bad' : ℕ → Type 0) → ((f k : ℕ) → damaged f k → damaged' f k) → ((f : ℕ) → foreign f → foreign' f) →
     ((d : ℕ) → bad d → bad' d) → Says e damaged foreign bad → Says e damaged' foreign' bad'
-says_more NameCount d d' f f' b b' p q r h = h
-says_more (NameLength i) d d' f f' b b' p q r h = h
-says_more (NameByte i) d d' f f' b b' p q r h = h
-says_more NamesEqual d d' f f' b b' p q r h = h
-says_more Cold d d' f f' b b' p q r h = h
-says_more Transaction d d' f f' b b' p q r h = h
-says_more NoDatabase d d' f f' b b' p q r h = h
-says_more BufferLength d d' f f' b b' p q r h = h
-says_more Page d d' f f' b b' p q r h = h
-says_more ChangedFull d d' f f' b b' p q r h = h
-says_more SavedFull d d' f f' b b' p q r h = h
-says_more SavepointsFull d d' f f' b b' p q r h = h
-says_more NoSavepoint d d' f f' b b' p q r h = h
 says_more (Damaged x k) d d' f f' b b' p q r h = p x k h
 says_more (Foreign x) d d' f f' b b' p q r h = q x h
 says_more (Database x) d d' f f' b b' p q r h = r x h
 says_more (Card x) d d' f f' b b' p q r h = tt
+says_more _ d d' f f' b b' p q r h = h
 
 module _ {C : Type 0} (m : Meaning C) where
   -- what only looked, and then was refused

@@ -5,25 +5,7 @@ use Rattle.card.specs.Meaning.{Meaning, Name}
 use Rattle.refusal.specs.declared.step.Step.{Step}
 use Rattle.refusal.specs.declared.fault.SetFault.{SetFault}
 use Rattle.refusal.specs.declared.refusals.Refusal.{Refusal}
-use Rattle.refusal.specs.declared.refusals.Refusal.TheVariants.{
-  NameCount,
-  NameLength,
-  NameByte,
-  NamesEqual,
-  Cold,
-  Transaction,
-  NoDatabase,
-  BufferLength,
-  Page,
-  ChangedFull,
-  SavedFull,
-  SavepointsFull,
-  NoSavepoint,
-  Damaged,
-  Foreign,
-  Database,
-  Card,
-}
+use Rattle.refusal.specs.declared.refusals.Refusal.TheVariants.{Damaged, Foreign, Database, Card}
 use Rattle.steps.specs.Tasks.{Task, Looks, Went}
 
 -- an answer without its value
@@ -33,23 +15,8 @@ ended (Err f) = Err f
 
 -- how the card's calls ended: only a fault of the card stops them, and what else an answer says is dropped
 abbrev pub stop_of : Refusal → Result (Unit {0}) SetFault
-stop_of NameCount = Ok tt
-stop_of (NameLength i) = Ok tt
-stop_of (NameByte i) = Ok tt
-stop_of NamesEqual = Ok tt
-stop_of Cold = Ok tt
-stop_of Transaction = Ok tt
-stop_of NoDatabase = Ok tt
-stop_of BufferLength = Ok tt
-stop_of Page = Ok tt
-stop_of ChangedFull = Ok tt
-stop_of SavedFull = Ok tt
-stop_of SavepointsFull = Ok tt
-stop_of NoSavepoint = Ok tt
-stop_of (Damaged f k) = Ok tt
-stop_of (Foreign f) = Ok tt
-stop_of (Database d) = Ok tt
 stop_of (Card f) = Err f
+stop_of _ = Ok tt
 
 abbrev pub dropped : {V : Type 0} → Result V Refusal → Result (Unit {0}) SetFault
 dropped (Ok v) = Ok tt
@@ -57,23 +24,11 @@ dropped (Err e) = stop_of e
 
 -- what a refusal says, by what damaged, foreign and bad files mean; no other refusal is given but the card's
 abbrev pub Says : Refusal → (ℕ → ℕ → Type 0) → (ℕ → Type 0) → (ℕ → Type 0) → Type 0
-Says NameCount damaged foreign bad = ⊥
-Says (NameLength i) damaged foreign bad = ⊥
-Says (NameByte i) damaged foreign bad = ⊥
-Says NamesEqual damaged foreign bad = ⊥
-Says Cold damaged foreign bad = ⊥
-Says Transaction damaged foreign bad = ⊥
-Says NoDatabase damaged foreign bad = ⊥
-Says BufferLength damaged foreign bad = ⊥
-Says Page damaged foreign bad = ⊥
-Says ChangedFull damaged foreign bad = ⊥
-Says SavedFull damaged foreign bad = ⊥
-Says SavepointsFull damaged foreign bad = ⊥
-Says NoSavepoint damaged foreign bad = ⊥
 Says (Damaged f k) damaged foreign bad = damaged f k
 Says (Foreign f) damaged foreign bad = foreign f
 Says (Database d) damaged foreign bad = bad d
 Says (Card f) damaged foreign bad = Unit {0}
+Says _ damaged foreign bad = ⊥
 
 -- what an answer says
 abbrev pub Told : {V : Type 0} → Result V Refusal → (V → Type 0) → (ℕ → ℕ → Type 0) → (ℕ → Type 0) → (ℕ → Type 0) → Type 0

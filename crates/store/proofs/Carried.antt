@@ -14,7 +14,8 @@ use Rattle.store.specs.declared.mode.Mode.{Mode}
 use Rattle.store.specs.declared.mode.Mode.TheVariants.{Cold, Ready, Running}
 use Rattle.store.specs.declared.mode.Call.TheVariants.{End}
 use Rattle.store.specs.Modes.{counted}
-use Rattle.store.specs.Commits.{nonce_of, told, Concluded, Commits}
+use Rattle.store.specs.Calls.{told}
+use Rattle.store.specs.Commits.{nonce_of, Concluded, Commits}
 
 module _ {C : Type 0} (m : Meaning C) where
   -- what a commit does on the card, by the parts of the set

@@ -18,10 +18,10 @@ use Rattle.pager.proofs.Pages.{length_joined}
 use Rattle.pager.proofs.Sizes.{page_long}
 use Rattle.steps.specs.Tasks.{task, Went, ToldBytes}
 use Rattle.store.specs.declared.set.Set.{Set}
-use Rattle.store.specs.Calls.{or_else}
+use Rattle.store.specs.Calls.{or_else, told}
 use Rattle.store.proofs.Kept.{passed}
 use Rattle.journaling.specs.Changes.{contents}
-use Rattle.store.specs.Reads.{page_refusal, read_refusal, place, at_reading, told, file_of, files_of, FromCard, Reads, Shows}
+use Rattle.store.specs.Reads.{page_refusal, read_refusal, place, at_reading, file_of, files_of, FromCard, Reads, Shows}
 
 -- the page p of pages one after the other
 page_of : (n : ℕ) (f : ℕ → Bytes) → ((p : ℕ) → length (f p) ≡ 512) → (p : ℕ) → 1 ≤ p → p ≤ n → part (joined n f) (place p) 512 ≡ f p

@@ -1,9 +1,10 @@
 -- Why the calls of a set are refused, the test of the mode first and then those of the memory; and what they
 -- leave alone.
-use Rattle.std.specs.Prelude.{◌≡◌, ℕ, cond, ◌&&◌, List, [], length, Some, None, Option, ◌==◌, nat_le}
+use Rattle.std.specs.Prelude.{◌≡◌, ℕ, cond, ◌&&◌, List, [], length, Some, None, Ok, Err, Option, Result, ◌==◌, nat_le}
 use Rattle.std.specs.Option.{option_map}
+use Rattle.refusal.specs.declared.fault.SetFault.{SetFault}
 use Rattle.refusal.specs.declared.refusals.Refusal.{Refusal}
-use Rattle.refusal.specs.declared.refusals.Refusal.TheVariants.{SavepointsFull, NoSavepoint}
+use Rattle.refusal.specs.declared.refusals.Refusal.TheVariants.{SavepointsFull, NoSavepoint, Card}
 use Rattle.refusal.specs.Raised.{of_memory}
 use Rattle.pager.specs.declared.memory.Memory.{Memory}
 use Rattle.pager.specs.Machine.{cleared}
@@ -35,6 +36,26 @@ pub record Fresh (before : Memory) (rows : List ℕ) (after : Memory) : Type 0 w
   pub changed : after.changed.rows.items ≡ []
   pub saved : after.saved.rows.items ≡ []
   pub view : (files : ℕ → List ℕ) → Stored files rows → view files after ≡ cleared files
+
+-- what the card answered, as the set tells it
+abbrev pub told : {V : Type 0} → Result V SetFault → Result V Refusal
+told (Ok v) = Ok v
+told (Err f) = Err (Card f)
+
+-- all but the mode and the count of transactions is as it was
+pub record ButMode {C : Type 0} (s s' : Set C) : Type 0 where
+  pub card : s'.card ≡ s.card
+  pub names : s'.names ≡ s.names
+  pub memory : s'.memory ≡ s.memory
+  pub stored : s'.stored ≡ s.stored
+  pub buffer : s'.buffer ≡ s.buffer
+
+-- all but the mode, the memory and the stored sizes is as it was
+pub record ButRun {C : Type 0} (s s' : Set C) : Type 0 where
+  pub card : s'.card ≡ s.card
+  pub names : s'.names ≡ s.names
+  pub begun : s'.begun ≡ s.begun
+  pub buffer : s'.buffer ≡ s.buffer
 
 -- all but the memory is as it was
 pub record ButMemory {C : Type 0} (s s' : Set C) : Type 0 where

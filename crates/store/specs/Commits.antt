@@ -4,7 +4,6 @@ use Rattle.card.specs.Meaning.{Meaning}
 use Rattle.names.specs.Files.{how_many}
 use Rattle.refusal.specs.declared.fault.SetFault.{SetFault}
 use Rattle.refusal.specs.declared.refusals.Refusal.{Refusal}
-use Rattle.refusal.specs.declared.refusals.Refusal.TheVariants.{Card}
 use Rattle.sizes.specs.declared.Sizes.{Sizes}
 use Rattle.pager.specs.declared.memory.Memory.{Memory}
 use Rattle.journaling.specs.Changes.{changes}
@@ -12,7 +11,7 @@ use Rattle.commit.specs.Ended.{Committed}
 use Rattle.store.specs.declared.set.Set.{Set}
 use Rattle.store.specs.declared.mode.Mode.{Mode}
 use Rattle.store.specs.declared.mode.Mode.TheVariants.{Cold, Ready, Running}
-use Rattle.store.specs.Calls.{Fresh}
+use Rattle.store.specs.Calls.{Fresh, told}
 use Rattle.store.specs.Reads.{file_of, files_of}
 
 -- the nonce of the running transaction; 0 if none runs
@@ -20,11 +19,6 @@ abbrev pub nonce_of : Mode → ℕ
 nonce_of Cold = 0
 nonce_of Ready = 0
 nonce_of (Running number nonce) = nonce
-
--- what the card answered, as the set tells it
-abbrev pub told : {V : Type 0} → Result V SetFault → Result V Refusal
-told (Ok v) = Ok v
-told (Err f) = Err (Card f)
 
 -- done, the sizes of the memory are stored, and the set is ready if no journal is left, else cold; after a
 -- fault it is cold, with the sizes that were stored. No transaction runs then

@@ -8,7 +8,7 @@ use Rattle.names.specs.Files.{names_of}
 use Rattle.names.specs.Names.{named}
 use Rattle.refusal.specs.declared.fault.SetFault.{SetFault}
 use Rattle.refusal.specs.declared.refusals.Refusal.{Refusal}
-use Rattle.refusal.specs.declared.refusals.Refusal.TheVariants.{NoDatabase, BufferLength, Page, Card}
+use Rattle.refusal.specs.declared.refusals.Refusal.TheVariants.{NoDatabase, BufferLength, Page}
 use Rattle.pager.specs.declared.memory.Memory.{Memory}
 use Rattle.pager.specs.View.{view}
 use Rattle.journaling.specs.Changes.{contents}
@@ -19,7 +19,7 @@ use Rattle.store.specs.declared.mode.Mode.{Mode}
 use Rattle.store.specs.declared.mode.Mode.TheVariants.{Cold}
 use Rattle.store.specs.declared.mode.Call.TheVariants.{Read}
 use Rattle.store.specs.Modes.{says}
-use Rattle.store.specs.Calls.{or_else, Fresh}
+use Rattle.store.specs.Calls.{or_else, Fresh, told}
 
 -- the page is one of the database's
 abbrev pub page_there : Memory → ℕ → ℕ → Bool
@@ -38,11 +38,6 @@ place p = (p - 1) * 512
 
 abbrev pub at_reading : ℕ → Site
 at_reading d = record { step = None; file = d; «record» = 0 }
-
--- what the card answered, as the set tells it
-abbrev pub told : Result (Unit {0}) SetFault → Result (Unit {0}) Refusal
-told (Ok u) = Ok u
-told (Err f) = Err (Card f)
 
 module _ (mode : Mode) (memory : Memory) (rows : List ℕ) (mode' : Mode) (memory' : Memory) where
   -- after a power failure the set is cold and its memory is that of the stored sizes; any other cause leaves both

@@ -10,6 +10,7 @@ use pager::Memory;
 use sizes::Sizes;
 
 mod admit;
+mod clear;
 mod commits;
 mod ends;
 mod look;

@@ -1,6 +1,7 @@
 // The mode and the call together: whether the call may go on, and what the mode is then.
 ghost use Rattle.std.specs.Prelude.{◌≡◌, None, ◌≢◌};
 ghost use Rattle.refusal.specs.Raised.{refused};
+ghost use Rattle.store.specs.Calls.{ButMode};
 ghost use Rattle.store.specs.Modes.{next, counted, says, OnlyAsks};
 
 use crate::mode::{Call, Mode};
@@ -15,11 +16,7 @@ impl<C> Set<C> {
         ensures begun { self.new.begun ≡ counted self.old.mode self.old.begun call }
         ensures kept { (refused result ≢ None) → self.new ≡ self.old }
         ensures asked { OnlyAsks call → self.new ≡ self.old }
-        ensures card { self.new.card ≡ self.old.card }
-        ensures names { self.new.names ≡ self.old.names }
-        ensures memory { self.new.memory ≡ self.old.memory }
-        ensures stored { self.new.stored ≡ self.old.stored }
-        ensures buffer { self.new.buffer ≡ self.old.buffer }
+        ensures others { ButMode self.old self.new }
     {
         match (self.mode, call) {
             (Mode::Ready, Call::Begin { nonce }) if self.begun < u32::MAX => {

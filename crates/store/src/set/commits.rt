@@ -1,6 +1,7 @@
 // Committing the running transaction.
 ghost use Rattle.std.specs.Prelude.{◌≡◌};
-ghost use Rattle.store.specs.Commits.{Commits, Concluded, nonce_of, told};
+ghost use Rattle.store.specs.Calls.{told, ButRun};
+ghost use Rattle.store.specs.Commits.{Commits, Concluded, nonce_of};
 ghost use Rattle.store.specs.Modes.{says};
 ghost use Rattle.store.specs.declared.mode.Call.TheVariants.{End};
 
@@ -28,23 +29,19 @@ impl<C> Set<C> {
     fn conclude(&mut self, answer: Result<usize, SetFault>) -> Result<usize, Refusal>
         ensures told { result ≡ told answer }
         ensures concluded { Concluded answer self.old.memory self.old.stored self.new.mode self.new.memory self.new.stored }
-        ensures begun { self.new.begun ≡ self.old.begun }
-        ensures card { self.new.card ≡ self.old.card }
-        ensures names { self.new.names ≡ self.old.names }
+        ensures others { ButRun self.old self.new }
     {
         match answer {
             Ok(left) => {
                 let Some(grown) = Sizes::checked(self.memory.sizes()) else {
                     unreachable()
                 };
-                self.mode = if left == 0 { Mode::Ready } else { Mode::Cold };
-                self.stored = grown;
-                self.memory.clear(grown.rows());
+                let mode = if left == 0 { Mode::Ready } else { Mode::Cold };
+                self.clear(mode, grown);
                 Ok(left)
             }
             Err(fault) => {
-                self.mode = Mode::Cold;
-                self.memory.clear(self.stored.rows());
+                self.clear(Mode::Cold, self.stored);
                 Err(Refusal::Card(fault))
             }
         }

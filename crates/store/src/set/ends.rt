@@ -2,7 +2,7 @@
 ghost use Rattle.std.specs.Prelude.{◌≡◌, true, None, ◌≢◌};
 ghost use Rattle.refusal.specs.Raised.{refused};
 ghost use Rattle.store.specs.Modes.{next, counted, says, given};
-ghost use Rattle.store.specs.Calls.{Fresh};
+ghost use Rattle.store.specs.Calls.{Fresh, ButMode, ButRun};
 ghost use Rattle.store.specs.declared.mode.Call.TheVariants.{Begin, End};
 
 use crate::mode::Call;
@@ -19,11 +19,7 @@ impl<C> Set<C> {
         ensures mode { self.new.mode ≡ next self.old.mode self.old.begun (Begin nonce) }
         ensures begun { self.new.begun ≡ counted self.old.mode self.old.begun (Begin nonce) }
         ensures kept { result.number ≡ 0 → self.new ≡ self.old }
-        ensures card { self.new.card ≡ self.old.card }
-        ensures names { self.new.names ≡ self.old.names }
-        ensures memory { self.new.memory ≡ self.old.memory }
-        ensures stored { self.new.stored ≡ self.old.stored }
-        ensures buffer { self.new.buffer ≡ self.old.buffer }
+        ensures others { ButMode self.old self.new }
     {
         match self.admit(Call::Begin { nonce }) {
             Ok(()) => Transaction::new(self.begun),
@@ -37,11 +33,8 @@ impl<C> Set<C> {
         ensures kept { (refused result ≢ None) → self.new ≡ self.old }
         ensures mode { self.new.mode ≡ next self.old.mode self.old.begun (End t.number) }
         ensures fresh { refused result ≡ None → Fresh self.old.memory self.old.stored.rows self.new.memory }
-        ensures begun { self.new.begun ≡ self.old.begun }
-        ensures card { self.new.card ≡ self.old.card }
-        ensures names { self.new.names ≡ self.old.names }
         ensures stored { self.new.stored ≡ self.old.stored }
-        ensures buffer { self.new.buffer ≡ self.old.buffer }
+        ensures others { ButRun self.old self.new }
     {
         let number = t.end();
         self.admit(Call::End { number })?;

@@ -59,10 +59,7 @@ impl<C> Set<C> {
     pub fn is_ready(&self) -> bool
         ensures { result ≡ is_ready self.now.mode }
     {
-        match self.mode {
-            Mode::Ready => true,
-            Mode::Cold | Mode::Running { .. } => false,
-        }
+        matches!(self.mode, Mode::Ready)
     }
 
     /// How many databases there are.
@@ -76,7 +73,6 @@ impl<C> Set<C> {
     pub fn size(&self, database: usize) -> Result<u32, Refusal>
         ensures { MatchResult result (λ n. (database < how_many self.now.names) × (n ≡ slice_index self.now.memory.sizes database)) (λ e. (how_many self.now.names ≤ database) × (e ≡ NoDatabase)) }
     {
-        let pages = self.memory.size(database)?;
-        Ok(pages)
+        Ok(self.memory.size(database)?)
     }
 }

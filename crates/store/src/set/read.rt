@@ -4,8 +4,10 @@ ghost use Rattle.card.specs.Calls.Op.{read as reads};
 ghost use Rattle.names.specs.Files.{file_of};
 ghost use Rattle.pager.specs.Changed.{look};
 ghost use Rattle.pager.specs.View.{fields};
+ghost use Rattle.refusal.specs.Raised.{refused};
 ghost use Rattle.steps.specs.Tasks.{Went, task, ToldBytes};
-ghost use Rattle.store.specs.Reads.{page_refusal, read_refusal, place as place_of, at_reading, told, LeftBy, Reads, Shows};
+ghost use Rattle.store.specs.Calls.{told, ButRun};
+ghost use Rattle.store.specs.Reads.{page_refusal, read_refusal, place as place_of, at_reading, LeftBy, Reads, Shows};
 
 use crate::mode::{Call, Mode};
 use crate::set::Set;
@@ -34,20 +36,18 @@ fn read_page<C: Card>(
 }
 
 impl<C> Set<C> {
-    /// Why a read of a page is refused, if it is.
-    fn page_refusal(&self, database: usize, page: u32, length: usize) -> Option<Refusal>
-        ensures { result ≡ page_refusal self.now.memory database page length }
+    /// Tests that a page can be read into a buffer of that length.
+    fn check_page(&self, database: usize, page: u32, length: usize) -> Result<(), Refusal>
+        ensures { refused result ≡ page_refusal self.now.memory database page length }
     {
-        let Ok(size) = self.memory.size(database) else {
-            return Some(Refusal::NoDatabase);
-        };
+        let size = self.memory.size(database)?;
         if length != PAGE {
-            return Some(Refusal::BufferLength);
+            return Err(Refusal::BufferLength);
         }
         if page < 1 || page > size {
-            return Some(Refusal::Page);
+            return Err(Refusal::Page);
         }
-        None
+        Ok(())
     }
 
     /// What the card answered, as the set tells it. After a power failure the set is cold, with nothing
@@ -55,18 +55,14 @@ impl<C> Set<C> {
     fn settle(&mut self, answer: Result<(), SetFault>) -> Result<(), Refusal>
         ensures told { result ≡ told answer }
         ensures left { LeftBy answer self.old.mode self.old.memory self.old.stored.rows self.new.mode self.new.memory }
-        ensures begun { self.new.begun ≡ self.old.begun }
-        ensures card { self.new.card ≡ self.old.card }
-        ensures names { self.new.names ≡ self.old.names }
         ensures stored { self.new.stored ≡ self.old.stored }
-        ensures buffer { self.new.buffer ≡ self.old.buffer }
+        ensures others { ButRun self.old self.new }
     {
         match answer {
             Ok(()) => Ok(()),
             Err(fault) => {
                 if let Cause::Power = fault.journal.card.cause {
-                    self.mode = Mode::Cold;
-                    self.memory.clear(self.stored.rows());
+                    self.clear(Mode::Cold, self.stored);
                 }
                 Err(Refusal::Card(fault))
             }
@@ -86,9 +82,7 @@ impl<C: Card> Set<C> {
         ensures buffer { self.new.buffer ≡ self.old.buffer }
     {
         self.admit(Call::Read)?;
-        if let Some(refusal) = self.page_refusal(database, page, buffer.len()) {
-            return Err(refusal);
-        }
+        self.check_page(database, page, buffer.len())?;
         if let Some(bytes) = self.memory.get(database, page) {
             buffer.copy_from_slice(bytes);
             return Ok(());

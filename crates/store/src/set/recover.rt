@@ -1,5 +1,6 @@
 // Recovering a set: it becomes ready with what its databases hold.
 ghost use Rattle.std.specs.Prelude.{◌≡◌};
+ghost use Rattle.store.specs.Calls.{ButRun};
 ghost use Rattle.store.specs.Recovers.{Sized, Restarted, Recovers};
 
 use crate::mode::Mode;
@@ -16,23 +17,18 @@ impl<C> Set<C> {
         requires { Sized answer }
         ensures told { result ≡ answer }
         ensures restarted { Restarted answer self.old.memory self.old.stored self.new.mode self.new.memory self.new.stored }
-        ensures begun { self.new.begun ≡ self.old.begun }
-        ensures card { self.new.card ≡ self.old.card }
-        ensures names { self.new.names ≡ self.old.names }
+        ensures others { ButRun self.old self.new }
     {
         match answer {
             Ok(recovery) => {
                 let Some(sizes) = Sizes::checked(recovery.sizes) else {
                     unreachable()
                 };
-                self.mode = Mode::Ready;
-                self.stored = sizes;
-                self.memory.clear(sizes.rows());
+                self.clear(Mode::Ready, sizes);
                 Ok(recovery)
             }
             Err(refusal) => {
-                self.mode = Mode::Cold;
-                self.memory.clear(self.stored.rows());
+                self.clear(Mode::Cold, self.stored);
                 Err(refusal)
             }
         }

@@ -23,8 +23,7 @@ impl<C> Set<C> {
     {
         let number = t.number();
         self.admit(Call::Use { number })?;
-        let made = self.memory.push()?;
-        Ok(made)
+        Ok(self.memory.push()?)
     }
 
     /// Removes savepoint s and all above it. Nothing that is held changes.

@@ -11,5 +11,5 @@ returns g c =
     let a = c.in_ok-admit.ensures in
     let d = c.conclude.ensures in
     carried m c.args.self.now c.admit.new.self c.conclude.new.self c.nonce-nonce.result c.commit-answer.new.card c.commit-answer.result c.conclude.result _
-    (a.refusal ∙ ap (λ (n : ℕ). says c.args.self.now.mode c.args.self.now.begun (End n)) c.end-number.ensures) a.card a.names a.memory a.stored
-    (a.begun ∙ counted_end c.args.self.now.mode c.args.self.now.begun c.end-number.result) c.nonce-nonce.ensures c.commit-answer.ensures d.told d.concluded d.card d.names d.begun
+    (a.refusal ∙ ap (λ (n : ℕ). says c.args.self.now.mode c.args.self.now.begun (End n)) c.end-number.ensures) a.others.card a.others.names a.others.memory a.others.stored
+    (a.begun ∙ counted_end c.args.self.now.mode c.args.self.now.begun c.end-number.result) c.nonce-nonce.ensures c.commit-answer.ensures d.told d.concluded d.others.card d.others.names d.others.begun

@@ -1,43 +1,26 @@
 use Rattle.std.proofs.Common.{ℕ, List, length, Ok, rules}
-use Rattle.card.specs.Meaning.{Meaning}
 use Rattle.pager.specs.Changed.{look}
 use Rattle.pager.specs.View.{fields}
 use Rattle.store.specs.Reads.{read_refusal, Reads}
 use Rattle.store.proofs.Shown.{shown}
 use Rattle.store.proofs.set.Set.read.Goals as goal
 
-pub returns-in-Some-get : goal.returns-in-Some-get
-returns-in-Some-get g c =
-    let m : Meaning g.row.C.Denot = g.C.Card.meaning in
+pub returns-in-Some-clause-shows : goal.returns-in-Some-clause-shows
+returns-in-Some-clause-shows g c =
     let self = c.args.self.now in
     let old : List ℕ = c.args.buffer.now in
     let d = c.args.database in
     let p = c.args.page in
-    let reads : Reads m d p self old (Ok tt) c.admit.new.self c.copy_from_slice.new.self (read_refusal self.mode self.begun self.memory d p (length old)) (look (fields self.memory).changed d p) =
+    let reads : Reads g.C.Card.meaning d p self old (Ok tt) c.admit.new.self c.copy_from_slice.new.self (read_refusal self.mode self.begun self.memory d p (length old)) (look (fields self.memory).changed d p) =
     search rules in
-    record {
-      read = reads;
-      shows = shown m d p self old (Ok tt) c.admit.new.self c.copy_from_slice.new.self reads;
-      begun = search rules;
-      names = search rules;
-      stored = search rules;
-      buffer = search rules;
-    }
+    shown g.C.Card.meaning d p self old (Ok tt) c.admit.new.self c.copy_from_slice.new.self reads
 
-pub returns : goal.returns
-returns g c =
-    let m : Meaning g.row.C.Denot = g.C.Card.meaning in
+pub returns-clause-shows : goal.returns-clause-shows
+returns-clause-shows g c =
     let self = c.args.self.now in
     let old : List ℕ = c.args.buffer.now in
     let d = c.args.database in
     let p = c.args.page in
-    let reads : Reads m d p self old c.settle.result c.settle.new.self c.read_page-answer.new.buffer (read_refusal self.mode self.begun self.memory d p (length old)) (look (fields self.memory).changed d p) =
+    let reads : Reads g.C.Card.meaning d p self old c.settle.result c.settle.new.self c.read_page-answer.new.buffer (read_refusal self.mode self.begun self.memory d p (length old)) (look (fields self.memory).changed d p) =
     search rules in
-    record {
-      read = reads;
-      shows = shown m d p self old c.settle.result c.settle.new.self c.read_page-answer.new.buffer reads;
-      begun = search rules;
-      names = search rules;
-      stored = search rules;
-      buffer = search rules;
-    }
+    shown g.C.Card.meaning d p self old c.settle.result c.settle.new.self c.read_page-answer.new.buffer reads

@@ -20,8 +20,8 @@ returns g c =
     let d = c.restart.ensures in
     subst (λ (r : Result Recovery Refusal). Recovers m s r s') (sym d.told)
     (record {
-      recovered = subst (λ (x : g.row.C.Denot). Recovered m (file_of s) (how_many s.names) s.card c.recover-answer.result x) (sym d.card) c.recover-answer.ensures;
+      recovered = subst (λ (x : g.row.C.Denot). Recovered m (file_of s) (how_many s.names) s.card c.recover-answer.result x) (sym d.others.card) c.recover-answer.ensures;
       restarted = d.restarted;
-      names = d.names;
-      begun = d.begun;
+      names = d.others.names;
+      begun = d.others.begun;
     })

@@ -1,0 +1,21 @@
+// Ending what runs.
+ghost use Rattle.std.specs.Prelude.{◌≡◌};
+ghost use Rattle.store.specs.Calls.{Fresh, ButRun};
+
+use crate::mode::Mode;
+use crate::set::Set;
+use sizes::Sizes;
+
+impl<C> Set<C> {
+    /// Ends what runs: the set has that mode then, those sizes are stored, and the memory is cleared to them.
+    pub(crate) fn clear(&mut self, mode: Mode, stored: Sizes)
+        ensures mode { self.new.mode ≡ mode }
+        ensures stored { self.new.stored ≡ stored }
+        ensures fresh { Fresh self.old.memory stored.rows self.new.memory }
+        ensures others { ButRun self.old self.new }
+    {
+        self.mode = mode;
+        self.stored = stored;
+        self.memory.clear(stored.rows());
+    }
+}
