@@ -4,7 +4,7 @@ use Rattle.card.specs.declared.fault.Cause.{Cause}
 use Rattle.card.specs.declared.fault.Cause.TheVariants.{Power, Device, Absent, Present, Range}
 use Rattle.card.specs.declared.fault.CardFault.{CardFault}
 use Rattle.card.specs.Meaning.{May, Same, Bytes, Name}
-use Rattle.card.specs.Calls.{Op, Called, Worked, Answered, FaultOf, call_of, cause_of, tested}
+use Rattle.card.specs.Calls.{Op, Called, Worked, Answered, FaultOf, call_of, tested}
 use Rattle.card.proofs.Whole.{worked_could}
 use Rattle.image.specs.Layout.{held}
 use Rattle.image.specs.Stored.{Done, Left, Stored, answer_of, refusal, crowded}

@@ -1,5 +1,5 @@
 -- The direct card: what it means, and exactly what it answers.
-use Rattle.std.specs.Prelude.{◌≡◌, ℕ, true, Some, Result}
+use Rattle.std.specs.Prelude.{◌≡◌, true, Some, Result}
 use Rattle.card.specs.declared.fault.CardFault.{CardFault}
 use Rattle.card.specs.Meaning.{Meaning, Name}
 use Rattle.card.specs.Calls.{Op, cause_of}

@@ -1,6 +1,5 @@
 use Rattle.std.proofs.Common.{◌≡◌, length, rules, ap, ◌∙◌, sym}
-use Rattle.std.specs.Fn.{FnOnceReturnsAtMut}
-use Rattle.image.specs.Layout.{slot, slot_size}
+use Rattle.image.specs.Layout.{slot_size}
 use Rattle.image.proofs.Slices.{slot_part, slot_write, length_slot}
 use Rattle.image.proofs.slots.at_slot.Goals as goal
 
