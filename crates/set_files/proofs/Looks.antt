@@ -95,7 +95,6 @@ module _ {C : Type 0} (m : Meaning C) where
       {V : Type 0} (step : Step) (file : ℕ → Name) (c c₁ : C) (e : Refusal) (r : Result V Refusal) → IsErrAnd r (λ x. x ≡ e) → Looked m step file c (stop_of e) c₁ → Looked m step file c (dropped r) c₁
   looked_refused {V} step file c c₁ e r h p = subst (λ (x : Result V Refusal). Looked m step file c (dropped x) c₁) (sym (passed_up r e h)) p
 
-
 -- a told length is that of a present file
 pub told_some : (f : Option Bytes) (n : ℕ) → Some n ≡ length_told f → (b : Bytes) × (f ≡ Some b) × (n ≡ length b)
 told_some None n e = let z : ◌≡◌ {A = ℕ} 0 1 = cc in absurd (omega arith)

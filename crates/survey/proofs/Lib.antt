@@ -1,2 +1,3 @@
+mod Searched
 mod Surveyed
 mod Listings

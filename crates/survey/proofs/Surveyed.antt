@@ -1,9 +1,5 @@
 -- What was found of journals: one by one, and of all in order.
-use Rattle.std.proofs.Common.{◌≡◌, ℕ, zero, suc, ◌+◌, ◌-◌, ◌<◌, ◌≤◌, true, false, ◌⊎◌, List, [], ◌∷◌, ◌++◌, length, drop, set, Some, None, Option, MatchOption, sym, refl, ap, ◌∙◌, subst, inl, inr, arith, below_more}
-use Rattle.std.specs.Option.{is_some}
-use Rattle.std.proofs.Math.ListN.{get_or-append}
-use Rattle.std.proofs.Math.Seq.{get_or-append_right}
-use Rattle.std.proofs.lemmas.List.{get_or-set_same, get_or-set_other, get_or-drop}
+use Rattle.std.proofs.Common.{◌≡◌, ℕ, ◌+◌, ◌<◌, ◌≤◌, ◌⊎◌, List, length, Some, None, Option, sym, refl, ap, ◌∙◌, subst, inl, inr, arith}
 use Rattle.std.proofs.lemmas.Bool.{cases_lt}
 use Rattle.card.specs.Meaning.{Bytes, Name}
 use Rattle.journal.specs.Format.{Journal, LawfulJournal, full}
@@ -20,7 +16,7 @@ use Rattle.survey.specs.declared.look.Look.{Look}
 use Rattle.set_files.specs.Files.{Holds, Present}
 use Rattle.survey.specs.Finds.{AllPresent, HotAt, NamesOurs, Asked, Reported, ForeignJournal}
 use Rattle.survey.specs.Seen.{Seen, none, spent, hot, SeenAs, FoundOf, found_at, Hot, Orphan}
-use Rattle.survey.specs.Linked.{LinkBy, LinkOf, SuperLook, LookedAs, AllLooked, look_at, no_journal}
+use Rattle.survey.specs.Linked.{LinkBy, LinkOf, SuperLook, LookedAs, AllLooked, look_at}
 use Rattle.set_files.proofs.Played.{some_same}
 
 -- a sound verdict is that of a journal
@@ -77,44 +73,6 @@ module _ (files : Holds) (file : ℕ → Name) (d : ℕ) where
           let same = journal_laws.same o.0 j o.1 was.lawful (sym o.2 ∙ bytes) in
           was.present o.3.0 (sym (ap (λ (x : Journal). x.super) same) ∙ o.3.1) o.3.2
   seen_hot (hot i) j h was = ap hot (journal_laws.same i j h.lawful was.lawful (some_same _ _ _ h.held was.held))
-
--- one more journal
-pub looked_more :
-    (files : Holds) (file : ℕ → Name) (i : ℕ) (looks : List Look) (x : Look) → i < length looks → ((k : ℕ) → k < i → LookedAs files file k (look_at looks k)) → LookedAs files file i x → (k : ℕ) → k < i + 1 →
-    LookedAs files file k (look_at (set looks i x) k)
-looked_more files file i looks x lt old here =
-    below_more (λ (k : ℕ). LookedAs files file k (look_at (set looks i x) k)) i
-    (λ k less. subst (LookedAs files file k) (sym (get_or-set_other looks i k x no_journal (λ e. omega arith))) (old k less))
-    (subst (LookedAs files file i) (sym (get_or-set_same looks i x no_journal lt)) here)
-
--- a list of the same value, where no journal is told
-blank_at : (x : Look) (k : ℕ) → x ≡ no_journal → look_at (x ∷ x ∷ x ∷ x ∷ []) k ≡ no_journal
-blank_at x zero e = e
-blank_at x (suc zero) e = e
-blank_at x (suc (suc zero)) e = e
-blank_at x (suc (suc (suc zero))) e = e
-blank_at x (suc (suc (suc (suc k)))) e = refl
-
--- the journals of the set, and after them none
-pub all_looked :
-    (files : Holds) (file : ℕ → Name) (n m : ℕ) (looks : List Look) (x : Look) → m ≡ n → length looks ≡ n → x ≡ no_journal → ((k : ℕ) → k < n → LookedAs files file k (look_at looks k)) →
-    AllLooked files file n (looks ++ drop (m - 0) (x ∷ x ∷ x ∷ x ∷ []))
-all_looked files file n m looks x same long blank each =
-    let rest : List Look = drop (m - 0) (x ∷ x ∷ x ∷ x ∷ []) in
-    record {
-      each = λ k lt. subst (LookedAs files file k) (sym (get_or-append looks rest no_journal k (omega arith))) (each k lt);
-      rest = λ k le lt.
-          get_or-append_right looks rest k no_journal (omega arith) ∙ get_or-drop (m - 0) (x ∷ x ∷ x ∷ x ∷ []) (k - length looks) no_journal ∙ blank_at x (m - 0 + (k - length looks)) blank;
-    }
-
--- what a search for a journal told
-pub some_linked : (o : Option ℕ) (N : Type 0) (P : ℕ → Type 0) → is_some o ≡ true → MatchOption o N P → (d : ℕ) × P d
-some_linked None N P e h = let z : ◌≡◌ {A = ℕ} 0 1 = cc in absurd (omega arith)
-some_linked (Some d) N P e h = (d, h)
-
-pub none_linked : (o : Option ℕ) (N : Type 0) (P : ℕ → Type 0) → is_some o ≡ false → MatchOption o N P → N
-none_linked None N P e h = h
-none_linked (Some d) N P e h = let z : ◌≡◌ {A = ℕ} 0 1 = cc in absurd (omega arith)
 
 pub not_none : (f : Option Bytes) → (f ≡ None → ⊥) → Present f
 not_none None h = absurd (h refl)

@@ -6,7 +6,7 @@ use Rattle.set_files.proofs.Looks.{looked_end, looked_then, looked_same, looked_
 use Rattle.survey.specs.Finds.{DamagedAt}
 use Rattle.survey.specs.Linked.{LookedAs}
 use Rattle.survey.specs.Seen.{Seen, SeenAs}
-use Rattle.survey.proofs.Surveyed.{looked_more, all_looked}
+use Rattle.survey.proofs.Searched.{looked_more, all_looked}
 use Rattle.survey.proofs.journals.judge_journals.Goals as goal
 
 pub loop-d-init : goal.loop-d-init

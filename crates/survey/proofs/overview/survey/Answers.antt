@@ -6,7 +6,8 @@ use Rattle.set_files.proofs.Looks.{looked_then, looked_same, looked_refused, tol
 use Rattle.survey.specs.Finds.{DamagedAt, FirstAbsent, Damage, Stranger, NoNames, Listed, Strays}
 use Rattle.survey.specs.Linked.{AllLooked}
 use Rattle.survey.specs.Seen.{Seen, SeenAs}
-use Rattle.survey.proofs.Surveyed.{all_seen, reported, names_ours, asked_by, foreign_by, none_asked, asked_present, some_linked, none_linked}
+use Rattle.survey.proofs.Surveyed.{all_seen, reported, names_ours, asked_by, foreign_by, none_asked, asked_present}
+use Rattle.survey.proofs.Searched.{some_linked, none_linked}
 use Rattle.survey.proofs.overview.survey.Goals as goal
 use Rattle.survey.proofs.overview.survey.Goals.{then-is_some+in_ok-check_super, else-is_some}
 
