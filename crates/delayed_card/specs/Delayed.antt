@@ -6,7 +6,6 @@ use Rattle.card.specs.declared.fault.CardFault.{CardFault}
 use Rattle.card.specs.Meaning.{Meaning, Bytes, Name}
 use Rattle.card.specs.Calls.{Op, cause_of}
 use Rattle.halves.specs.declared.kept.Kept.{Kept}
-use Rattle.halves.specs.declared.both.Halves.{Halves}
 use Rattle.image.specs.Layout.{held}
 use Rattle.image.specs.Stored.{refusal}
 use Rattle.image.specs.Blamed.{FromOrigin}

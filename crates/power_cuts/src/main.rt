@@ -17,6 +17,7 @@ use story::tell_set;
 const USAGE: &str = "power_cuts [cut CALL KEPT OLD NEW OLD NEW]";
 
 /// The word of that number; empty if there is none.
+// No Option: an empty word is read as no number and no file, and the error says so in one way.
 fn word(words: &[String], i: usize) -> &str {
     words.get(i).map_or("", |word| word.as_str())
 }

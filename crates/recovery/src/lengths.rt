@@ -30,6 +30,7 @@ fn measure_one<C: Card>(card: &mut C, names: &Names, d: usize) -> Result<u32, Re
 }
 
 /// How many pages each database has; 1 for one that the set has not.
+// No Option in the array: the memory and the stored sizes take four numbers within their limits.
 pub(crate) fn measure<C: Card>(card: &mut C, names: &Names) -> Result<[u32; DATABASES], Refusal>
     ensures looked { Looked C.Card.meaning R4 (file_of names.now) card.old (dropped result) card.new }
     ensures told { Measured (C.Card.meaning.holds card.old) (file_of names.now) (how_many names.now) result }

@@ -41,6 +41,7 @@ impl Sizes {
     }
 
     /// The size of one database; 1 for a database past the fourth.
+    // No Option: a size that a caller has is within its limits, and each caller would unwrap.
     pub fn get(&self, database: usize) -> u32
         ensures is { database < 4 → result ≡ slice_index self.now.rows database }
         ensures some { 1 ≤ result }

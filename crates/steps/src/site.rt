@@ -8,6 +8,7 @@ use refusal::{SetFault, Step};
 
 /// Where a call of the card stands: its step, none in a read, the number of its file, and the page
 /// record that it is about, from 1; 0 for none.
+// The file and the record are numbers as in the fault that is told of them.
 #[derive(Clone, Copy)]
 pub struct Site {
     pub step: Option<Step>,

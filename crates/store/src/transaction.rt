@@ -27,6 +27,7 @@ impl Transaction {
     }
 
     /// The number of the transaction, 0 if the token is void.
+    // No Option: numbers are told from 1, and 0 is that of a void token, by a rule of the project.
     pub fn number(&self) -> u32
         ensures { result ≡ self.now.number }
     {

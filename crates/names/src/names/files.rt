@@ -53,6 +53,7 @@ impl Names {
 
     /// The name of the file of that number: 0 to 3 a database, 4 to 7 its journal, 8 the super-journal.
     /// It is empty if the list has no such file.
+    // No Option: the word of every contract above, `file_of`, is total, and each caller would unwrap.
     pub fn file(&self, file: usize) -> FileName
         ensures { result.bytes.items ≡ file_of self.now file }
     {

@@ -15,6 +15,7 @@ use sizes::Sizes;
 
 impl<C> Set<C> {
     /// The nonce of the running transaction; 0 if none runs.
+    // No Option: it is asked before the call is admitted, and used only after, when one ran.
     fn nonce(&self) -> u32
         ensures { result ≡ nonce_of self.now.mode }
     {
