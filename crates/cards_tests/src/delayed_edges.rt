@@ -33,6 +33,7 @@ fn make<C: Card>(card: &mut C, call: Last) -> Result<(), CardFault> {
 }
 
 /// What is left of the files f and g after the call was cut: their lengths and the bytes of f.
+// What is kept goes by number, as the card takes it.
 fn left(call: Last, kept: u8) -> Result<(Option<u32>, Option<u32>, [u8; 8]), Fail> {
     let mut bytes = [b'-'; 8];
     let mut image = [0xffu8; IMAGE];

@@ -1,5 +1,5 @@
 -- The parts of a commit, one after the other, are its plan.
-use Rattle.std.proofs.Common.{◌≡◌, ℕ, ◌+◌, ◌<◌, Bool, true, false, cond, List, [], ◌∷◌, ◌++◌, map, length, leb, Ok, Err, Result, sym, refl, ap, ◌∙◌, subst, ap₂, inr, arith}
+use Rattle.std.proofs.Common.{◌≡◌, ℕ, ◌+◌, ◌<◌, Bool, true, false, cond, List, [], ◌∷◌, ◌++◌, map, leb, Ok, Err, Result, sym, refl, ap, ◌∙◌, subst, ap₂, inr, arith}
 use Rattle.std.proofs.lemmas.List.{length-map}
 use Rattle.std.proofs.lemmas.Simd.{map-map}
 use Rattle.std.specs.List.{AllByRecursion}
@@ -7,7 +7,6 @@ use Rattle.card.specs.Meaning.{Meaning, Bytes, Name}
 use Rattle.card.specs.Calls.{delete}
 use Rattle.card.specs.Runs.{Act}
 use Rattle.names.specs.Files.{how_many, file_of}
-use Rattle.names.specs.Names.{named}
 use Rattle.names.specs.declared.names.Names.{Names}
 use Rattle.names.proofs.Files.{database_is_file, super_is_file, files_apart}
 use Rattle.pager.specs.declared.memory.Memory.{Memory}

@@ -1,8 +1,8 @@
 -- A journal that is filled for a commit is never refused: its pages are lawful, and the buffer has room.
-use Rattle.std.proofs.Common.{◌≡◌, ℕ, zero, suc, ◌+◌, ◌-◌, ◌≤◌, Bool, true, false, cond, ◌&&◌, ltb, leb, List, [], ◌∷◌, length, Some, None, Ok, Err, Option, Result, sym, refl, ap, ◌∙◌, arith, Bor}
+use Rattle.std.proofs.Common.{◌≡◌, ℕ, zero, suc, ◌+◌, ◌-◌, ◌≤◌, Bool, true, false, cond, ◌&&◌, ltb, leb, List, [], ◌∷◌, length, Some, Ok, Err, Option, Result, refl, ap, ◌∙◌, arith, Bor}
 use Rattle.std.specs.Bool.{then_some}
 use Rattle.std.specs.Result.{IsOk}
-use Rattle.std.proofs.lemmas.Bool.{and_from, and_parts, both_ways, le-leb, lt-ltb, leb-true, ltb-true, cond-true, cond-false}
+use Rattle.std.proofs.lemmas.Bool.{and_from, and_parts, both_ways, le-leb, lt-ltb, leb-true, ltb-true, cond-true}
 use Rattle.card.specs.Meaning.{Bytes, Name}
 use Rattle.journal.specs.Format.{super_bytes}
 use Rattle.journal.proofs.Encoded.{length_super}

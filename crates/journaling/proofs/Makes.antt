@@ -1,12 +1,12 @@
 -- A journal is made: created, read, filled and stored, one after the other.
-use Rattle.std.proofs.Common.{◌≡◌, ℕ, ◌+◌, ◌-◌, ◌<◌, List, [], ◌∷◌, ◌++◌, map, length, take, Ok, Err, Result, sym, ap, ◌∙◌, subst, ap₂, arith}
+use Rattle.std.proofs.Common.{◌≡◌, ℕ, ◌+◌, ◌-◌, ◌<◌, List, [], ◌∷◌, ◌++◌, map, length, take, Ok, Err, Result, ap, ◌∙◌, subst, arith}
 use Rattle.std.proofs.lemmas.List.{take_at}
 use Rattle.card.specs.Meaning.{Meaning, Bytes, Name}
 use Rattle.card.specs.Calls.{create}
 use Rattle.journal.specs.Format.{PageRecord, encode}
 use Rattle.names.specs.Files.{how_many}
 use Rattle.journal_writer.specs.OnCard.{store_acts}
-use Rattle.journal_writer.specs.Written.{Filled, originals, journal_in}
+use Rattle.journal_writer.specs.Written.{Filled, journal_in}
 use Rattle.names.specs.declared.names.Names.{Names}
 use Rattle.names.proofs.Files.{database_is_file, journal_is_file, files_apart}
 use Rattle.refusal.specs.declared.fault.SetFault.{SetFault}

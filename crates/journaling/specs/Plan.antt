@@ -9,7 +9,6 @@ use Rattle.super_journal.specs.Super.{super_journal_bytes}
 use Rattle.journal_writer.specs.OnCard.{store_acts}
 use Rattle.refusal.specs.declared.step.Step.{Step}
 use Rattle.refusal.specs.declared.step.Step.TheVariants.{C1, C2, C3, C4}
-use Rattle.steps.specs.declared.site.Site.{Site}
 use Rattle.steps.specs.Tasks.{Task, task, tasks, at, at_record}
 
 -- one database that a commit changes: its number, what its file holds, its size in pages at the start,

@@ -3,6 +3,7 @@ ghost use Rattle.std.specs.Prelude.{◌≡◌};
 ghost use Rattle.names.specs.Refused.{list_number};
 
 /// Why a list of names is refused, with what goes beside the number.
+// Beside the set's enum, which takes it by From: its type says what the check of a list can answer.
 #[derive(Clone, Copy, PartialEq, Eq, Debug)]
 pub enum ListRefusal {
     /// There are no names, or over four.

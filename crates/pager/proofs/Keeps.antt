@@ -1,5 +1,5 @@
 -- What a write does to the fields, and that the fields stay sound.
-use Rattle.std.proofs.Common.{◌≡◌, ℕ, zero, suc, ◌+◌, ◌<◌, ◌≤◌, max, Bool, true, false, cond, not, ◌&&◌, ◌||◌, eqb, ltb, leb, ◌⊎◌, List, [], ◌∷◌, ◌++◌, length, get_or, take, set, is_some, find, Some, None, Option, sym, refl, ap, ◌∙◌, ap₂, inl, inr, arith}
+use Rattle.std.proofs.Common.{◌≡◌, ℕ, suc, ◌+◌, ◌<◌, ◌≤◌, max, Bool, true, false, cond, not, ◌&&◌, ◌||◌, eqb, ltb, leb, ◌⊎◌, List, [], ◌∷◌, ◌++◌, length, get_or, set, is_some, find, Some, None, Option, sym, refl, ap, ◌∙◌, ap₂, inl, inr, arith}
 use Rattle.std.specs.Option.{option_map}
 use Rattle.std.proofs.lemmas.Option.{none-some}
 use mathlib.Core.Bool.{Bool-set}
@@ -20,7 +20,7 @@ use Rattle.pager.specs.declared.refusal.Refusal.TheVariants.{NoDatabase, BufferL
 use Rattle.page_map.specs.Sets.{PageSet, including, is_page, total}
 use Rattle.page_map.specs.Words.{pages_of}
 use Rattle.pager.specs.Changed.{look, Whole, is_row}
-use Rattle.pager.specs.Saved.{is_saved, has, has_from}
+use Rattle.pager.specs.Saved.{has, has_from}
 use Rattle.pager.specs.Sound.{Sound, map_of}
 use Rattle.pager.specs.View.{Fields, fields, page_allowed, to_save, write_refusal, was_of, saved_first}
 use Rattle.pager.proofs.Saves.{from_end}

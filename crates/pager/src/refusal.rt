@@ -3,6 +3,7 @@ ghost use Rattle.std.specs.Prelude.{◌≡◌};
 ghost use Rattle.pager.specs.Refusals.{refusal_number};
 
 /// Why a call is refused; the tests go in the order of the numbers.
+// Beside the set's enum, which takes it by From: its type says what a call of the memory can answer.
 #[derive(Clone, Copy, PartialEq, Eq, Debug)]
 pub enum Refusal {
     /// There is no such database.

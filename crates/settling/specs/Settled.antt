@@ -5,9 +5,7 @@ use Rattle.card.specs.Meaning.{Bytes, Name}
 use Rattle.card.specs.Calls.{length_of, write, set_length, sync, delete}
 use Rattle.journal.specs.Format.{Journal, full, record_of}
 use Rattle.journal.specs.OnCard.{judge_acts}
-use Rattle.refusal.specs.declared.step.Step.{Step}
 use Rattle.refusal.specs.declared.step.Step.TheVariants.{R2, R3}
-use Rattle.steps.specs.declared.site.Site.{Site}
 use Rattle.steps.specs.Tasks.{Task, task, tasks, at, at_record}
 use Rattle.survey.specs.Seen.{Seen, none, spent, hot}
 

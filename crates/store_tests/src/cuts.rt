@@ -15,6 +15,7 @@ use store::Set;
 #[derive(Clone, Copy)]
 pub struct Cut {
     pub call: u32,
+    // a number, as the card takes it
     pub kept: u8,
 }
 

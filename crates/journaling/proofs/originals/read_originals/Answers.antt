@@ -1,6 +1,6 @@
 use Rattle.std.proofs.Common.{arith}
 use Rattle.std.proofs.lemmas.Result.{err_from_is_err_and}
-use Rattle.journaling.proofs.Readings.{reading_none, reading_more, reading_stopped, all_went, all_lie}
+use Rattle.journaling.proofs.Readings.{reading_none, reading_more, reading_stopped}
 use Rattle.journaling.proofs.originals.read_originals.Goals as goal
 
 pub loop-index-init : goal.loop-index-init

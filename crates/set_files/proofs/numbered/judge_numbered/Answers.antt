@@ -1,4 +1,4 @@
-use Rattle.std.proofs.Common.{Some, ◌∙◌, subst}
+use Rattle.std.proofs.Common.{◌∙◌, subst}
 use Rattle.card.specs.Meaning.{Name}
 use Rattle.journal.specs.OnCard.{judge_acts}
 use Rattle.steps.specs.declared.site.Site.{Site}

@@ -1,6 +1,5 @@
-use Rattle.std.proofs.Common.{◌≡◌, ℕ, ◌+◌, [], ◌∷◌, get_or, Ok, Err, refl, ◌∙◌}
+use Rattle.std.proofs.Common.{refl, ◌∙◌}
 use Rattle.std.proofs.lemmas.Result.{err_from_is_err_and}
-use Rattle.card.specs.Calls.{delete}
 use Rattle.steps.proofs.Went.{went_as}
 use Rattle.commit.proofs.Turns.{round_none, round_more, round_stop, round_all}
 use Rattle.commit.proofs.work.Work.delete_journals.Goals as goal

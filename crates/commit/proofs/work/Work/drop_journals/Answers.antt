@@ -1,10 +1,9 @@
-use Rattle.std.proofs.Common.{◌≡◌, ℕ, ◌+◌, ◌≤◌, false, true, get_or, List, sym, ap, ◌∙◌, subst, arith}
+use Rattle.std.proofs.Common.{◌≡◌, ℕ, ◌+◌, false, true, get_or, List, sym, ◌∙◌, subst, arith}
 use Rattle.card.specs.Meaning.{Name}
 use Rattle.card.specs.Calls.{Called, cause_of, delete}
 use Rattle.card.specs.Runs.{Act}
-use Rattle.commit.specs.Ended.{Dropped}
 use Rattle.commit.specs.Works.{files, several}
-use Rattle.commit.proofs.Trying.{dropped_none, Trying, trying_more, trying_all, ill, well}
+use Rattle.commit.proofs.Trying.{dropped_none, trying_more, trying_all, ill, well}
 use Rattle.commit.proofs.work.Work.drop_journals.Goals as goal
 
 pub returns-then-not-many : goal.returns-then-not-many

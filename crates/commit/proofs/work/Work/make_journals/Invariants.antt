@@ -1,6 +1,6 @@
 use Rattle.names.specs.Files.{how_many}
 use Rattle.journaling.specs.Plan.{super_of}
-use Rattle.commit.specs.Works.{files, listed, several}
+use Rattle.commit.specs.Works.{files, several}
 use Rattle.commit.proofs.Making.{Making}
 use Rattle.commit.proofs.work.Work.make_journals.Given as goal
 

@@ -1,14 +1,9 @@
-use Rattle.std.proofs.Common.{◌≡◌, ℕ, false, true, [], ◌∷◌, take, Ok, Err, sym, refl, ap, ◌∙◌}
+use Rattle.std.proofs.Common.{◌≡◌, ℕ, false, true, [], ◌∷◌, take, sym, refl, ap, ◌∙◌}
 use native.Mathlib.Nat.{sub-zero}
 use Rattle.std.proofs.lemmas.Result.{err_from_is_err_and}
-use Rattle.card.specs.Meaning.{Meaning, Name}
-use Rattle.card.specs.Calls.{create, write, sync}
-use Rattle.refusal.specs.declared.step.Step.TheVariants.{C1}
-use Rattle.steps.specs.Tasks.{at}
+use Rattle.card.specs.Calls.{create, write}
 use Rattle.steps.proofs.Went.{went_end, went_then, went_stop, went_as}
-use Rattle.super_journal.specs.Super.{super_journal_bytes}
-use Rattle.journaling.specs.Plan.{call}
-use Rattle.commit.specs.Works.{files, journals, several}
+use Rattle.commit.specs.Works.{several}
 use Rattle.commit.proofs.work.Work.open_super.Goals as goal
 
 pub returns-then-not-many : goal.returns-then-not-many

@@ -1,4 +1,4 @@
-use Rattle.std.proofs.Common.{ℕ, ◌+◌, ◌≤◌, length, ap, ◌∙◌, arith}
+use Rattle.std.proofs.Common.{ℕ, ◌≤◌, length, ap, ◌∙◌, arith}
 use Rattle.card.specs.Meaning.{Name}
 use Rattle.names.proofs.Files.{super_long}
 use Rattle.names.specs.Files.{names_of}

@@ -1,13 +1,11 @@
-use Rattle.std.proofs.Common.{◌≡◌, ℕ, ◌+◌, ◌-◌, true, List, length, take, Ok, Err, sym, refl, ap, ◌∙◌, subst, arith}
+use Rattle.std.proofs.Common.{◌+◌, refl, ◌∙◌, arith}
 use Rattle.std.proofs.lemmas.Result.{err_from_is_err_and}
 use Rattle.card.specs.Calls.{create}
-use Rattle.journal_writer.specs.Written.{pages_lawful}
 use Rattle.pager.proofs.Counted.{changed_few}
 use Rattle.refusal.specs.declared.step.Step.TheVariants.{C2}
 use Rattle.steps.specs.Tasks.{at}
 use Rattle.steps.proofs.Went.{went_as, went_acted}
 use Rattle.journaling.specs.Made.{files}
-use Rattle.journaling.specs.Buffers.{PagesOk}
 use Rattle.journaling.proofs.Recorded.{recorded_ok}
 use Rattle.journaling.proofs.Fills.{recorded_lawful}
 use Rattle.journaling.proofs.Makes.{not_created, not_read, stored_whole}

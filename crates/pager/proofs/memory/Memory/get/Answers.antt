@@ -1,5 +1,4 @@
 use Rattle.std.proofs.Common.{is_some, sym, ap, ◌∙◌}
-use Rattle.pager.specs.View.{fields}
 use Rattle.pager.proofs.Keeps.{linked}
 use Rattle.pager.proofs.memory.Memory.get.Goals as goal
 

@@ -1,7 +1,6 @@
 use Rattle.std.proofs.Common.{ℕ, Bool, not, ◌&&◌, eqb, sym, ap, ◌∙◌, ap₂}
 use Rattle.std.proofs.lemmas.Bool.{and_left}
 use Rattle.pager.specs.Sound.{map_of}
-use Rattle.pager.specs.View.{fields}
 use Rattle.pager.proofs.Keeps.{in_all}
 use Rattle.pager.proofs.memory.Memory.lacks_changed_room.Goals as goal
 
