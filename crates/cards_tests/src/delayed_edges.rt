@@ -47,9 +47,8 @@ fn left(call: Last, kept: u8) -> Result<(Option<u32>, Option<u32>, [u8; 8]), Fai
     card.power();
     let f = card.length(b"f")?;
     let g = card.length(b"g")?;
-    if let Some(length) = f {
-        card.read(b"f", 0, &mut bytes[0..(length as usize).min(8)])?;
-    }
+    let n = f.map_or(8, |length| length as usize).min(8);
+    let _ = card.read(b"f", 0, &mut bytes[0..n]);
     Ok((f, g, bytes))
 }
 

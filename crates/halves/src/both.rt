@@ -50,6 +50,7 @@ impl Halves<'_> {
     /// How many bytes the file has; none if it is absent.
     pub fn length(&mut self, name: &[u8]) -> Result<Option<u32>, Cause>
         ensures paired { Answers length_of name.now self.old result self.new }
+        ensures size { count self.new.current.now ≡ count self.old.current.now }
         ensures told { IfOk result (λ told. told ≡ length_told (held self.old.current.now name.now)) }
     {
         image::length(self.current, name)
@@ -58,6 +59,7 @@ impl Halves<'_> {
     /// Fills the buffer with the file's bytes from a place on.
     pub fn read(&mut self, name: &[u8], place: u32, buffer: &mut [u8]) -> Result<(), Cause>
         ensures paired { Answers (reading place (count buffer.old)) name.now self.old result self.new }
+        ensures size { count self.new.current.now ≡ count self.old.current.now }
         ensures told { ReadInto (held self.old.current.now name.now) place buffer.old result buffer.new }
     {
         image::read(self.current, name, place, buffer)
@@ -65,7 +67,8 @@ impl Halves<'_> {
 
     /// Makes an empty file in both halves.
     pub fn create(&mut self, name: &[u8]) -> Result<(), Cause>
-        ensures { Answers creating name.now self.old result self.new }
+        ensures paired { Answers creating name.now self.old result self.new }
+        ensures size { count self.new.current.now ≡ count self.old.current.now }
     {
         let current = &mut *self.current;
         image::create(current, name)?;
@@ -77,21 +80,24 @@ impl Halves<'_> {
 
     /// Puts bytes into the file from a place on.
     pub fn write(&mut self, name: &[u8], place: u32, bytes: &[u8]) -> Result<(), Cause>
-        ensures { Answers (writing place bytes.now) name.now self.old result self.new }
+        ensures paired { Answers (writing place bytes.now) name.now self.old result self.new }
+        ensures size { count self.new.current.now ≡ count self.old.current.now }
     {
         image::write(self.current, name, place, bytes)
     }
 
     /// Cuts the file, or fills it with zeros, to a length.
     pub fn set_length(&mut self, name: &[u8], length: u32) -> Result<(), Cause>
-        ensures { Answers (set_length length) name.now self.old result self.new }
+        ensures paired { Answers (set_length length) name.now self.old result self.new }
+        ensures size { count self.new.current.now ≡ count self.old.current.now }
     {
         image::set_length(self.current, name, length)
     }
 
     /// Makes what the file holds now what is surely kept of it.
     pub fn sync(&mut self, name: &[u8]) -> Result<(), Cause>
-        ensures { Answers syncing name.now self.old result self.new }
+        ensures paired { Answers syncing name.now self.old result self.new }
+        ensures size { count self.new.current.now ≡ count self.old.current.now }
     {
         let current = &mut *self.current;
         let k = image::present(current, name)?;
@@ -101,7 +107,8 @@ impl Halves<'_> {
 
     /// Makes a present file absent in both halves.
     pub fn delete(&mut self, name: &[u8]) -> Result<(), Cause>
-        ensures { Answers deleting name.now self.old result self.new }
+        ensures paired { Answers deleting name.now self.old result self.new }
+        ensures size { count self.new.current.now ≡ count self.old.current.now }
     {
         let current = &mut *self.current;
         let k = image::present(current, name)?;
@@ -112,7 +119,8 @@ impl Halves<'_> {
 
     /// Leaves what is kept of each file in both halves.
     pub fn keep(&mut self, choice: Kept)
-        ensures { KeptAs choice self.old.current.now self.old.synced.now self.new.current.now self.new.synced.now }
+        ensures kept { KeptAs choice self.old.current.now self.old.synced.now self.new.current.now self.new.synced.now }
+        ensures size { count self.new.current.now ≡ count self.old.current.now }
     {
         loss::keep(self.current, self.synced, choice);
     }

@@ -69,6 +69,7 @@ pub fn check_found(rt: &impl Abort, files: &[Beside<'_>], found: Found) -> Resul
     );
     assert_eq!(rt; recovery.sizes, [2, 2, 1, 1]);
     check_all(rt, &mut set, 1, Version::Old);
+    assert_eq!(rt; set.size(1), Ok(2));
     check_page(rt, &mut set, 1, 1, Version::Old);
     let second = match found {
         Found::Hot { .. } => Version::New,

@@ -27,13 +27,11 @@ pub struct TroubleLayer<C> {
 fn listing(numbers: &[u32]) -> Option<Few<u32, TROUBLES>>
     ensures { MatchOption result (8 < count numbers.now) (λ given. given.items ≡ numbers.now) }
 {
-    let mut given = Few::new(0);
-    for number in numbers {
-        if given.is_full() {
-            return None;
-        }
-        given.push(*number);
+    if numbers.len() > TROUBLES {
+        return None;
     }
+    let mut given = Few::new(0);
+    given.extend_from_slice(numbers);
     Some(given)
 }
 

@@ -3,5 +3,5 @@ use Rattle.card.specs.Calls.{write}
 use Rattle.halves.proofs.Backed.{stored_paired}
 use Rattle.halves.proofs.both.Halves.write.Goals as goal
 
-pub returns : goal.returns
-returns c = stored_paired (write c.args.place c.args.bytes.now) _ _ _ c.write.ensures refl (λ a b. refl)
+pub returns-clause-paired : goal.returns-clause-paired
+returns-clause-paired c = stored_paired (write c.args.place c.args.bytes.now) _ _ _ c.write.ensures refl (λ a b. refl)
