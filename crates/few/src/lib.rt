@@ -67,7 +67,7 @@ impl<T: Copy, const N: usize> Few<T, N> {
         self.used == N
     }
 
-    /// Puts a value at the end.
+    /// Puts a value at the end. For the crates of this repository: it wants room for one more.
     pub fn push(&mut self, value: T)
         requires { count self.old.items < N }
         ensures { self.new.items ≡ self.old.items ++ value ∷ [] }
@@ -76,7 +76,7 @@ impl<T: Copy, const N: usize> Few<T, N> {
         self.used += 1;
     }
 
-    /// Puts the values at the end.
+    /// Puts the values at the end. For the crates of this repository: it wants room for all of them.
     pub fn extend_from_slice(&mut self, values: &[T])
         requires { count self.old.items + count values.now ≤ N }
         ensures { self.new.items ≡ self.old.items ++ values.now }
@@ -86,7 +86,7 @@ impl<T: Copy, const N: usize> Few<T, N> {
         }
     }
 
-    /// Puts a value in the place of another.
+    /// Puts a value in the place of another. For the crates of this repository: it wants that place.
     pub fn set(&mut self, i: usize, value: T)
         requires { i < count self.old.items }
         ensures { self.new.items ≡ slice_set self.old.items i value }

@@ -1,5 +1,5 @@
 -- The machine that a transaction's memory is, over what the files hold.
-use Rattle.std.specs.Prelude.{◌≡◌, ℕ, zero, suc, ◌+◌, ◌-◌, ◌*◌, Bool, true, false, cond, not, ◌&&◌, List, [], ◌∷◌, ◌++◌, length, take, drop, replicate, Some, None, Ok, Err, Option, Result, ◌==◌, nat_le, nat_lt, slice_index, slice_index_or}
+use Rattle.std.specs.Prelude.{◌≡◌, ℕ, zero, suc, ◌+◌, ◌-◌, ◌*◌, ◌≤◌, Bool, true, false, cond, not, ◌&&◌, List, [], ◌∷◌, ◌++◌, length, take, drop, replicate, Some, None, Ok, Err, Option, Result, ◌==◌, nat_le, nat_lt, slice_index, slice_index_or}
 use Rattle.card.specs.Meaning.{Bytes}
 use Rattle.pager.specs.declared.memory.Memory.{Memory}
 use Rattle.pager.specs.declared.changed_page.ChangedPage.{ChangedPage}
@@ -96,6 +96,10 @@ page_allowed m d p = nat_le 1 p && (nat_le p (slice_index m.sizes d + 1) && nat_
 -- the top savepoint has to save the page first
 abbrev pub to_save : Memory → ℕ → ℕ → Bool
 to_save m d p = nat_le 1 (length m.levels.items) && not (has (length m.levels.items) (fields m).saved d p)
+
+-- there is no such database, and that is what is told
+abbrev pub NoSuch : Memory → ℕ → Refusal → Type 0
+NoSuch m d e = (m.count ≤ d) × (e ≡ NoDatabase)
 
 -- why a write is refused
 abbrev pub write_refusal : Memory → ℕ → ℕ → ℕ → Option Refusal

@@ -7,19 +7,19 @@ ghost use Rattle.pager.specs.Refusals.{refusal_number};
 #[derive(Clone, Copy, PartialEq, Eq, Debug)]
 pub enum Refusal {
     /// There is no such database.
-    NoDatabase,
+    NoDatabase = 7,
     /// The buffer has not 512 bytes.
-    BufferLength,
+    BufferLength = 8,
     /// The page is not allowed, or past 4,096.
-    Page,
+    Page = 9,
     /// 32 pages are changed in all, and this is not among them.
-    ChangedFull,
+    ChangedFull = 10,
     /// 32 pages are saved, and one more is needed.
-    SavedFull,
+    SavedFull = 11,
     /// 8 savepoints stand.
-    SavepointsFull,
+    SavepointsFull = 12,
     /// There is no such savepoint.
-    NoSavepoint,
+    NoSavepoint = 13,
 }
 
 impl Refusal {
@@ -27,14 +27,6 @@ impl Refusal {
     pub fn number(self) -> u8
         ensures { result ≡ refusal_number self }
     {
-        match self {
-            Refusal::NoDatabase => 7,
-            Refusal::BufferLength => 8,
-            Refusal::Page => 9,
-            Refusal::ChangedFull => 10,
-            Refusal::SavedFull => 11,
-            Refusal::SavepointsFull => 12,
-            Refusal::NoSavepoint => 13,
-        }
+        self as u8
     }
 }

@@ -1,12 +1,11 @@
 // Making a memory, clearing it, and looking at it.
 ghost use Rattle.std.specs.Prelude.{◌≡◌, ℕ, ◌*◌, ◌<◌, ◌≤◌, min, cond, List, [], length, is_some, Some, None, MatchOption, MatchResult, slice_index};
 ghost use Rattle.std.specs.Option.{option_map};
-ghost use Rattle.pager.specs.declared.refusal.Refusal.TheVariants.{NoDatabase};
 ghost use Rattle.pager.specs.Changed.{look};
 ghost use Rattle.pager.specs.Machine.{cleared};
 ghost use Rattle.page_map.specs.Sets.{counted, NoneAbove, NextAbove, VisitLaw};
 ghost use Rattle.pager.specs.Sound.{map_of};
-ghost use Rattle.pager.specs.View.{view, fields, Stored};
+ghost use Rattle.pager.specs.View.{view, fields, Stored, NoSuch};
 
 use crate::changed_pages::ChangedPages;
 use crate::memory::{DATABASES, Memory};
@@ -55,7 +54,7 @@ impl Memory {
 
     /// That there is such a database.
     pub(super) fn known(&self, database: usize) -> Result<(), Refusal>
-        ensures { MatchResult result (λ _. database < self.now.count) (λ e. (self.now.count ≤ database) × (e ≡ NoDatabase)) }
+        ensures { MatchResult result (λ _. database < self.now.count) (NoSuch self.now database) }
     {
         if database >= self.count {
             return Err(Refusal::NoDatabase);
@@ -65,7 +64,7 @@ impl Memory {
 
     /// How many pages a database has.
     pub fn size(&self, database: usize) -> Result<u32, Refusal>
-        ensures { MatchResult result (λ n. (database < self.now.count) × (n ≡ slice_index self.now.sizes database)) (λ e. (self.now.count ≤ database) × (e ≡ NoDatabase)) }
+        ensures { MatchResult result (λ n. (database < self.now.count) × (n ≡ slice_index self.now.sizes database)) (NoSuch self.now database) }
     {
         self.known(database)?;
         Ok(self.sizes[database])
@@ -80,7 +79,7 @@ impl Memory {
 
     /// How many pages of a database are changed.
     pub fn changed_count(&self, database: usize) -> Result<u32, Refusal>
-        ensures { MatchResult result (λ n. (database < self.now.count) × (n ≡ counted (map_of self.now.maps database) 4096)) (λ e. (self.now.count ≤ database) × (e ≡ NoDatabase)) }
+        ensures { MatchResult result (λ n. (database < self.now.count) × (n ≡ counted (map_of self.now.maps database) 4096)) (NoSuch self.now database) }
     {
         self.known(database)?;
         Ok(self.maps[database].count())
@@ -89,7 +88,7 @@ impl Memory {
     /// The least changed page of a database above this one. Asked from 0 on, and then from each
     /// answer, it visits each changed page once and no other, in ascending order.
     pub fn next_changed(&self, database: usize, page: u32) -> Result<Option<u32>, Refusal>
-        ensures next { MatchResult result (λ o. (database < self.now.count) × MatchOption o (NoneAbove (map_of self.now.maps database) page) (λ p. NextAbove (map_of self.now.maps database) page p)) (λ e. (self.now.count ≤ database) × (e ≡ NoDatabase)) }
+        ensures next { MatchResult result (λ o. (database < self.now.count) × MatchOption o (NoneAbove (map_of self.now.maps database) page) (λ p. NextAbove (map_of self.now.maps database) page p)) (NoSuch self.now database) }
         ensures visit { VisitLaw (map_of self.now.maps database) }
     {
         self.known(database)?;
