@@ -43,7 +43,7 @@ impl DelayedCard<'_> {
     /// Tells the card to lose power at a call from now, the next being 1, and what is then kept of
     /// each file: 0 what was synced, 1 what it holds then, 2 a mix of the two. The last lawful
     /// telling counts.
-    // What is kept is a number, and one past 2 is refused: a rule of the project.
+    // What is kept is a number, and one past 2 is refused: a rule of the project (docs/CARD.md).
     pub fn lose_power_at(&mut self, call: u32, kept: u8) -> Result<(), Untold>
         ensures told { ToldCut call kept self.old.cut result self.new.cut }
         ensures current { self.new.halves.current.now ≡ self.old.halves.current.now }

@@ -3,7 +3,8 @@ ghost use Rattle.std.specs.Prelude.{◌≡◌};
 
 use card::CardFault;
 
-/// A refused call of the card, whole, and the page record at fault, from 1; 0 for none, a rule of the project.
+/// A refused call of the card, whole, and the page record at fault, from 1; 0 for none, a rule of the project
+/// (docs/REFUSALS.md).
 #[derive(Clone, Copy, PartialEq, Eq, Debug)]
 pub struct JournalFault {
     pub card: CardFault,

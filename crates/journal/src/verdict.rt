@@ -27,7 +27,8 @@ pub struct Sound {
 
 /// What the bytes of a journal are: spent, damaged at a page record (from 1; 0 for no such record), or sound.
 ///
-/// The record is a number and no Option: it is told as it stands, and 0 for no record is a rule of the project.
+/// The record is a number and no Option: it is told as it stands, and 0 for no record is a rule of the
+/// project (docs/FORMAT.md).
 #[derive(Clone, Copy, PartialEq, Eq, Debug)]
 pub enum Verdict {
     Spent,

@@ -1,4 +1,5 @@
 // One changed page of a database.
+use page_map::PAGE;
 
 /// A changed page: of which database, which page, and what it holds now.
 #[derive(Clone, Copy)]
@@ -6,5 +7,5 @@ pub struct ChangedPage {
     // no struct of database and page: each call and clause has them as two, and a test of both is a line
     pub database: usize,
     pub page: u32,
-    pub bytes: [u8; 512],
+    pub bytes: [u8; PAGE],
 }

@@ -5,6 +5,7 @@ ghost use Rattle.pager.specs.Changed.{is_row, look, Whole};
 
 use crate::changed_page::ChangedPage;
 use few::Few;
+use page_map::PAGE;
 
 /// The most pages that are changed at one time, in all databases.
 pub const CHANGED_LIMIT: usize = 32;
@@ -26,7 +27,7 @@ impl ChangedPages {
             rows: Few::new(ChangedPage {
                 database: 0,
                 page: 0,
-                bytes: [0; 512],
+                bytes: [0; PAGE],
             }),
         }
     }
@@ -42,7 +43,7 @@ impl ChangedPages {
     }
 
     /// What the page holds, if it is changed.
-    pub fn get(&self, database: usize, page: u32) -> Option<&[u8; 512]>
+    pub fn get(&self, database: usize, page: u32) -> Option<&[u8; PAGE]>
         ensures { option_map (λ x. x.now) result ≡ look self.now.rows.items database page }
     {
         let i = self.find(database, page)?;
@@ -57,7 +58,7 @@ impl ChangedPages {
     }
 
     /// Puts the page in, or in the place of what it held.
-    pub fn put(&mut self, database: usize, page: u32, bytes: [u8; 512])
+    pub fn put(&mut self, database: usize, page: u32, bytes: [u8; PAGE])
         requires { is_some (look self.old.rows.items database page) ≡ false → length self.old.rows.items < 32 }
         ensures look { (d p : ℕ) → look self.new.rows.items d p ≡ (if nat_eq d database && p == page then Some bytes else look self.old.rows.items d p) }
         ensures used { length self.new.rows.items ≡ cond (is_some (look self.old.rows.items database page)) (length self.old.rows.items) (length self.old.rows.items + 1) }

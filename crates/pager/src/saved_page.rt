@@ -1,10 +1,11 @@
 // One page that a savepoint saved.
+use page_map::PAGE;
 
 /// What a page was when it was saved.
 #[derive(Clone, Copy)]
 pub enum Was {
     /// It was changed already, to these bytes.
-    Changed([u8; 512]),
+    Changed([u8; PAGE]),
     /// It was as the file has it.
     Unchanged,
     /// It was not there yet.

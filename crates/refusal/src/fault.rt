@@ -11,7 +11,7 @@ pub const FOREIGN: usize = 9;
 
 /// A refused call of the card: what the journal tells of it, whole, in which step it was, none in a
 /// read, and on which file.
-// The file is a number, not an enum: it is told as it stands, by a rule of the project.
+// The file is a number, not an enum: it is told as it stands, by a rule of the project (docs/REFUSALS.md).
 #[derive(Clone, Copy, PartialEq, Eq, Debug)]
 pub struct SetFault {
     pub journal: JournalFault,

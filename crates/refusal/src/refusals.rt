@@ -7,7 +7,8 @@ ghost use Rattle.refusal.specs.Raised.{of_list, of_memory};
 use crate::fault::SetFault;
 use names::ListRefusal;
 
-// Files and records beside a number are numbers, and 0 is no record: so they are told, by a rule of the project.
+// Files and records beside a number are numbers, and 0 is no record: so they are told, by a rule of the
+// project (docs/REFUSALS.md).
 /// Why a call is refused, with what goes beside the number. The tests of a call go in the order of
 /// the numbers. Names and files go by number, from 0.
 #[derive(Clone, Copy, PartialEq, Eq, Debug)]

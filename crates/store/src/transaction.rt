@@ -27,7 +27,8 @@ impl Transaction {
     }
 
     /// The number of the transaction, 0 if the token is void.
-    // No Option: numbers are told from 1, and 0 is that of a void token, by a rule of the project.
+    // No Option: numbers are told from 1, and 0 is that of a void token, by a rule of the project
+    // (docs/SET.md).
     pub fn number(&self) -> u32
         ensures { result ≡ self.now.number }
     {

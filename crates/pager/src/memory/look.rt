@@ -12,7 +12,7 @@ use crate::memory::{DATABASES, Memory};
 use crate::refusal::Refusal;
 use crate::saved_pages::SavedPages;
 use few::Few;
-use page_map::PageMap;
+use page_map::{PAGE, PageMap};
 
 impl Memory {
     /// The memory of a transaction on so many databases, at most four, of these sizes in pages:
@@ -45,7 +45,7 @@ impl Memory {
     }
 
     /// What a page holds, if it is changed.
-    pub fn get(&self, database: usize, page: u32) -> Option<&[u8; 512]>
+    pub fn get(&self, database: usize, page: u32) -> Option<&[u8; PAGE]>
         ensures is { option_map (λ x. x.now) result ≡ look (fields self.now).changed database page }
         ensures changed { database < 4 → map_of self.now.maps database page ≡ is_some (option_map (λ x. x.now) result) }
     {
