@@ -7,7 +7,7 @@
 
 ghost use Rattle.std.specs.Prelude.{◌≡◌, ℕ, Bool, List, length as count, Option};
 ghost use Rattle.card.specs.Meaning.{Meaning, Lawful, Switched};
-ghost use Rattle.card.specs.Calls.{Answered, ToldLength, ToldBytes};
+ghost use Rattle.card.specs.Calls.{Answered, ToldLength, ToldBytes, name_ok};
 ghost use Rattle.card.specs.Calls.Op.{length_of, read as reading, create as creating, write as writing, set_length, sync as syncing, delete as deleting};
 ghost use Rattle.card.specs.Crash.{CrashLaw};
 ghost use Rattle.card.specs.Examples.{Examples};
@@ -21,6 +21,13 @@ pub const NAME_LIMIT: usize = 32;
 
 /// The most bytes that a file holds.
 pub const FILE_LIMIT: usize = 2_097_152;
+
+/// Whether a name has a lawful length.
+pub fn is_name(name: &[u8]) -> bool
+    ensures { result ≡ name_ok name.now }
+{
+    (1..=NAME_LIMIT).contains(&name.len())
+}
 
 pub trait Card {
     /// What the card means: whether power is on, what the file of a name holds now, none if it is

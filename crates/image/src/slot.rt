@@ -1,11 +1,11 @@
 // One slot of an image: the name, its length, the file's length, and the file's bytes.
 ghost use Rattle.std.specs.Prelude.{◌≡◌, ℕ, ◌+◌, ◌-◌, ◌*◌, ◌^◌, ◌<◌, ◌≤◌, true, false, List, [], length as count, take, drop};
 ghost use Rattle.std.specs.Str.{bytes_eq};
-ghost use Rattle.card.specs.Calls.{part, overwrite as overwritten, resized, name_ok};
+ghost use Rattle.card.specs.Calls.{part, overwrite as overwritten, resized};
 ghost use Rattle.card.specs.Numbers.{number_at};
 ghost use Rattle.image.specs.Layout.{free, named, content};
 
-use card::NAME_LIMIT;
+use card::is_name;
 
 /// The bytes of a slot before the file's: 32 for the name, 1 for its length, 4 for the file's length.
 pub const HEAD: usize = 37;
@@ -21,13 +21,6 @@ pub fn is_free(slot: &[u8]) -> bool
     ensures { result ≡ free slot.now }
 {
     slot.len() >= HEAD && slot[NAME_LENGTH] == 0
-}
-
-/// Whether a name has a lawful length.
-pub fn is_name(name: &[u8]) -> bool
-    ensures { result ≡ name_ok name.now }
-{
-    (1..=NAME_LIMIT).contains(&name.len())
 }
 
 /// Whether the slot has the file of that name.

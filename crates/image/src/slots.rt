@@ -9,7 +9,7 @@ ghost use Rattle.image.specs.Stored.{Stored, PresentAt, ReadInto, Freed, SlotDon
 
 use crate::slot;
 use crate::slot::HEAD;
-use card::{Cause, FILE_LIMIT};
+use card::{Cause, FILE_LIMIT, is_name};
 
 /// The slots of an image.
 pub const SLOTS: usize = 16;
@@ -64,7 +64,7 @@ pub fn present(image: &[u8], name: &[u8]) -> Result<usize, Cause>
 {
     match find(image, name) {
         Some(k) => Ok(k),
-        None if slot::is_name(name) => Err(Cause::Absent),
+        None if is_name(name) => Err(Cause::Absent),
         None => Err(Cause::Range),
     }
 }
@@ -95,7 +95,7 @@ pub fn length(image: &mut [u8], name: &[u8]) -> Result<Option<u32>, Cause>
     ensures stored { Stored length_of name.now image.old result image.new }
     ensures told { IfOk result (λ told. told ≡ length_told (held image.old name.now)) }
 {
-    if !slot::is_name(name) {
+    if !is_name(name) {
         return Err(Cause::Range);
     }
     // Tried with map: what its closure asks of a slot's number is left unproved.
@@ -123,7 +123,7 @@ pub fn read(image: &mut [u8], name: &[u8], place: u32, buffer: &mut [u8]) -> Res
 pub fn create(image: &mut [u8], name: &[u8]) -> Result<(), Cause>
     ensures { Stored creating name.now image.old result image.new }
 {
-    if !slot::is_name(name) {
+    if !is_name(name) {
         return Err(Cause::Range);
     }
     if find(image, name).is_some() {

@@ -7,7 +7,7 @@ ghost use Rattle.journal.specs.Fronts.{Reads, Apart, front_right};
 
 use crate::layout::{RECORD_LIMIT, SECTOR, SUPER_EXTRA, has_magic, is_blank, number, record_place};
 use card::NAME_LIMIT;
-use page_map::{PAGE, PAGE_LIMIT};
+use page_map::{PAGE, is_page};
 
 /// The numbers of a right header that journals differ in.
 #[derive(Clone, Copy)]
@@ -92,7 +92,7 @@ impl Front<'_> {
         ensures { result ≡ front_right self.now.header.count self.now.header.size self.now.sector self.now.page self.now.padding.now }
     {
         self.header.count <= RECORD_LIMIT
-            && (1..=PAGE_LIMIT).contains(&self.header.size)
+            && is_page(self.header.size)
             && self.sector as usize == SECTOR
             && self.page as usize == PAGE
             && is_blank(self.padding)

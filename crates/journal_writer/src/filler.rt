@@ -6,7 +6,8 @@ ghost use Rattle.journal.specs.Format.{record_bytes, records_bytes, super_bytes}
 ghost use Rattle.journal.specs.Judged.{record_place as place_of, page_bytes};
 ghost use Rattle.journal_writer.specs.Written.{Filled, made_lawful, ascend, pages_lawful, given_lawful, told, originals};
 
-use crate::writer::{Refusal, fill_header, fill_name, is_name, is_size, put_number};
+use crate::writer::{Refusal, fill_header, fill_name, is_size, put_number};
+use card::is_name;
 use journal::{RECORD_LIMIT, SUPER_EXTRA, checksum, record_place};
 
 /// Whether each page is past the one before it, and none past the size.

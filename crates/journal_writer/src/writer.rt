@@ -2,17 +2,18 @@
 // goes in apart, when all else is safe.
 ghost use Rattle.std.specs.Prelude.{◌≡◌, ℕ, ◌+◌, ◌*◌, ◌<◌, ◌≤◌, true, false, ◌&&◌, length as count_bytes, Some, IsTrue};
 ghost use Rattle.std.specs.Fn.{FnOnceTakesAtMut, FnOnceReturnsAtMut};
-ghost use Rattle.card.specs.Calls.{overwrite, name_ok};
+ghost use Rattle.card.specs.Calls.{overwrite};
 ghost use Rattle.card.specs.Numbers.{number_bytes};
 ghost use Rattle.journal.specs.Format.{header as header_bytes, record_bytes, super_bytes, Octets};
 ghost use Rattle.journal.specs.Judged.{record_place as place_of};
 ghost use Rattle.journal_writer.specs.Written.{Put, PutTo, size_lawful, record_lawful, name_lawful, count_lawful};
 
-use card::NAME_LIMIT;
+use card::is_name;
 use journal::{
-    BLANK, MAGIC, PAGE, PAGE_LIMIT, RECORD, RECORD_LIMIT, SECTOR, SUPER_EXTRA, SUPER_PAGE,
-    byte_sum, checksum, record_place,
+    BLANK, MAGIC, PAGE, RECORD, RECORD_LIMIT, SECTOR, SUPER_EXTRA, SUPER_PAGE, byte_sum, checksum,
+    record_place,
 };
+use page_map::is_page;
 
 /// Why a part of a journal was not put into a buffer, which is then as it was.
 #[derive(Clone, Copy, PartialEq, Eq, Debug)]
@@ -76,7 +77,7 @@ fn put<F: FnOnce(&mut [u8])>(
 pub fn is_size(size: u32) -> bool
     ensures { result ≡ size_lawful size }
 {
-    (1..=PAGE_LIMIT).contains(&size)
+    is_page(size)
 }
 
 /// Puts a header of count 0 at the start of the buffer.
@@ -92,7 +93,7 @@ pub fn put_header(buffer: &mut [u8], nonce: u32, size: u32) -> Result<(), Refusa
 fn is_record(index: u32, page: u32, bytes: &[u8]) -> bool
     ensures { result ≡ record_lawful index page bytes.now }
 {
-    index < RECORD_LIMIT && (1..=PAGE_LIMIT).contains(&page) && bytes.len() == PAGE
+    index < RECORD_LIMIT && is_page(page) && bytes.len() == PAGE
 }
 
 /// Puts the record of a page at a place.
@@ -122,13 +123,6 @@ pub fn put_record(
     put(buffer, is_lawful, place + RECORD, |buffer| {
         fill_record(buffer, place, nonce, page, bytes)
     })
-}
-
-/// Whether a journal's super-journal may have the name.
-pub fn is_name(name: &[u8]) -> bool
-    ensures { result ≡ name_ok name.now }
-{
-    (1..=NAME_LIMIT).contains(&name.len())
 }
 
 /// Whether a super-journal record may stand past so many records, and have the name.

@@ -6,8 +6,9 @@ ghost use Rattle.set_files.specs.Looked.{Looked, Told, dropped, never, never₂}
 ghost use Rattle.recovery.specs.Measured.{Pages, HasPages, NoPages, Measured};
 
 use card::Card;
-use journal::{PAGE, PAGE_LIMIT};
+use journal::PAGE;
 use names::{DATABASES, Names};
+use page_map::is_page;
 use refusal::{Refusal, Step};
 use set_files::length_of;
 
@@ -17,7 +18,7 @@ fn pages_of(bytes: u32) -> Option<u32>
 {
     let page = PAGE as u32;
     let pages = bytes / page;
-    (bytes % page == 0 && (1..=PAGE_LIMIT).contains(&pages)).then_some(pages)
+    (bytes % page == 0 && is_page(pages)).then_some(pages)
 }
 
 /// How many pages a database has.

@@ -11,7 +11,7 @@ use crate::memory::Memory;
 use crate::refusal::Refusal;
 use crate::saved_page::{SavedPage, Was};
 use crate::saved_pages::SavedPages;
-use page_map::{PAGE, PAGE_LIMIT};
+use page_map::{PAGE, is_page};
 
 impl Memory {
     /// Whether the page is one of the database's, or the next one.
@@ -19,7 +19,7 @@ impl Memory {
         requires { database < 4 }
         ensures { result ≡ page_allowed self.now database page }
     {
-        page >= 1 && page - 1 <= self.sizes[database] && page <= PAGE_LIMIT
+        is_page(page) && page - 1 <= self.sizes[database]
     }
 
     /// Whether the top savepoint has to save the page before it is written.
