@@ -2,7 +2,7 @@
 ghost use Rattle.std.specs.Prelude.{◌≡◌, ℕ, Some, None, MatchOption};
 ghost use Rattle.refusal.specs.declared.step.Step.TheVariants.{R4};
 ghost use Rattle.names.specs.Files.{how_many, file_of};
-ghost use Rattle.set_files.specs.Looked.{Looked, Told, dropped, never, never₂};
+ghost use Rattle.set_files.specs.Looked.{OnlyLooked, Told, never, never₂};
 ghost use Rattle.recovery.specs.Measured.{Pages, HasPages, NoPages, Measured};
 
 use card::Card;
@@ -23,7 +23,7 @@ fn pages_of(bytes: u32) -> Option<u32>
 
 /// How many pages a database has.
 fn measure_one<C: Card>(card: &mut C, names: &Names, d: usize) -> Result<u32, Refusal>
-    ensures looked { Looked C.Card.meaning R4 (file_of names.now) card.old (dropped result) card.new }
+    ensures looked { OnlyLooked C.Card.meaning R4 names.now card.old result card.new }
     ensures told { Told result (HasPages (C.Card.meaning.holds card.old (file_of names.now d))) never₂ never (λ i. (i ≡ d) × NoPages (C.Card.meaning.holds card.old (file_of names.now d))) }
 {
     let length = length_of(card, names, Step::R4, d)?;
@@ -33,7 +33,7 @@ fn measure_one<C: Card>(card: &mut C, names: &Names, d: usize) -> Result<u32, Re
 /// How many pages each database has; 1 for one that the set has not.
 // No Option in the array: the memory and the stored sizes take four numbers within their limits.
 pub(crate) fn measure<C: Card>(card: &mut C, names: &Names) -> Result<[u32; DATABASES], Refusal>
-    ensures looked { Looked C.Card.meaning R4 (file_of names.now) card.old (dropped result) card.new }
+    ensures looked { OnlyLooked C.Card.meaning R4 names.now card.old result card.new }
     ensures told { Measured (C.Card.meaning.holds card.old) (file_of names.now) (how_many names.now) result }
 {
     let mut sizes = [1u32; DATABASES];

@@ -7,6 +7,8 @@ use Rattle.refusal.specs.declared.fault.SetFault.{SetFault}
 use Rattle.refusal.specs.declared.refusals.Refusal.{Refusal}
 use Rattle.refusal.specs.declared.refusals.Refusal.TheVariants.{Damaged, Foreign, Database, Card}
 use Rattle.steps.specs.Tasks.{Task, Looks, Went}
+use Rattle.names.specs.declared.names.Names.{Names}
+use Rattle.names.specs.Files.{file_of}
 
 -- an answer without its value
 abbrev pub ended : {V : Type 0} → Result V SetFault → Result (Unit {0}) SetFault
@@ -54,3 +56,7 @@ pub record Looked {C : Type 0} (m : Meaning C) (step : Step) (file : ℕ → Nam
   pub list : List Task
   pub each : AllByRecursion (Looking step file) list
   pub went : Went m list c r c'
+
+-- a part of a recovery that only looks at files of the set
+abbrev pub OnlyLooked : {C V : Type 0} → Meaning C → Step → Names → C → Result V Refusal → C → Type 0
+OnlyLooked m step names c r c' = Looked m step (file_of names) c (dropped r) c'

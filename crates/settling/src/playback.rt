@@ -29,12 +29,8 @@ fn write_record<C: Card>(
     requires { (j : Journal) × Of bytes.now sound.now j × (index < count_of j.records) }
     ensures { (j : Journal) → Of bytes.now sound.now j → Went C.Card.meaning (record_task (file_of names.now) d j index ∷ []) card.old result card.new }
 {
-    let Some(number) = sound.page_number(bytes, index) else {
-        unreachable()
-    };
-    let Some(page) = sound.page(bytes, index) else {
-        unreachable()
-    };
+    let number = sound.page_number(bytes, index).unwrap();
+    let page = sound.page(bytes, index).unwrap();
     Site::of_record(Step::R2, d, index + 1).write(
         card,
         names.file(d).bytes(),
@@ -85,10 +81,7 @@ fn reread<C: Card>(
     ensures went { (j : Journal) → LawfulJournal j → C.Card.meaning.holds card.old (file_of names.now (4 + d)) ≡ Some (full j) → Went C.Card.meaning (tasks (at R2 (4 + d)) (judge_acts (file_of names.now (4 + d)) (Some (full j)))) card.old result card.new }
     ensures told { IfOk result (λ s. (j : Journal) → LawfulJournal j → C.Card.meaning.holds card.old (file_of names.now (4 + d)) ≡ Some (full j) → Parts s j × (buffer.new ≡ overwrite buffer.old 0 (full j))) }
 {
-    // In two steps: where one pattern for both fails, a proof learns nothing of the verdict.
-    let Some(verdict) = judge_numbered(card, names, Step::R2, DATABASES + d, buffer)? else {
-        unreachable()
-    };
+    let verdict = judge_numbered(card, names, Step::R2, DATABASES + d, buffer)?.unwrap();
     let Verdict::Sound(sound) = verdict else {
         unreachable()
     };

@@ -7,7 +7,8 @@ use Rattle.std.proofs.lemmas.List.{get_or-set_same, get_or-set_other, get_or-dro
 use Rattle.card.specs.Meaning.{Name}
 use Rattle.set_files.specs.Files.{Holds}
 use Rattle.survey.specs.declared.look.Look.{Look}
-use Rattle.survey.specs.Linked.{LookedAs, AllLooked, look_at, no_journal}
+use Rattle.survey.specs.declared.look.Look.TheVariants.{Absent as LookAbsent}
+use Rattle.survey.specs.Linked.{LookedAs, AllLooked, look_at}
 
 -- one more journal
 pub looked_more :
@@ -15,27 +16,28 @@ pub looked_more :
     LookedAs files file k (look_at (set looks i x) k)
 looked_more files file i looks x lt old here =
     below_more (λ (k : ℕ). LookedAs files file k (look_at (set looks i x) k)) i
-    (λ k less. subst (LookedAs files file k) (sym (get_or-set_other looks i k x no_journal (λ e. omega arith))) (old k less))
-    (subst (LookedAs files file i) (sym (get_or-set_same looks i x no_journal lt)) here)
+    (λ k less. subst (LookedAs files file k) (sym (get_or-set_other looks i k x LookAbsent (λ e. omega arith))) (old k less))
+    (subst (LookedAs files file i) (sym (get_or-set_same looks i x LookAbsent lt)) here)
 
--- a list of the same value, where no journal is told
-blank_at : (x : Look) (k : ℕ) → x ≡ no_journal → look_at (x ∷ x ∷ x ∷ x ∷ []) k ≡ no_journal
-blank_at x zero e = e
-blank_at x (suc zero) e = e
-blank_at x (suc (suc zero)) e = e
-blank_at x (suc (suc (suc zero))) e = e
-blank_at x (suc (suc (suc (suc k)))) e = refl
+-- no journal is told past the set's
+blank_at : (k : ℕ) → look_at (LookAbsent ∷ LookAbsent ∷ LookAbsent ∷ LookAbsent ∷ []) k ≡ LookAbsent
+blank_at zero = refl
+blank_at (suc zero) = refl
+blank_at (suc (suc zero)) = refl
+blank_at (suc (suc (suc zero))) = refl
+blank_at (suc (suc (suc (suc k)))) = refl
 
 -- the journals of the set, and after them none
 pub all_looked :
-    (files : Holds) (file : ℕ → Name) (n m : ℕ) (looks : List Look) (x : Look) → m ≡ n → length looks ≡ n → x ≡ no_journal → ((k : ℕ) → k < n → LookedAs files file k (look_at looks k)) →
-    AllLooked files file n (looks ++ drop (m - 0) (x ∷ x ∷ x ∷ x ∷ []))
-all_looked files file n m looks x same long blank each =
-    let rest : List Look = drop (m - 0) (x ∷ x ∷ x ∷ x ∷ []) in
+    (files : Holds) (file : ℕ → Name) (n m : ℕ) (looks : List Look) → m ≡ n → length looks ≡ n → ((k : ℕ) → k < n → LookedAs files file k (look_at looks k)) →
+    AllLooked files file n (looks ++ drop (m - 0) (LookAbsent ∷ LookAbsent ∷ LookAbsent ∷ LookAbsent ∷ []))
+all_looked files file n m looks same long each =
+    let rest : List Look = drop (m - 0) (LookAbsent ∷ LookAbsent ∷ LookAbsent ∷ LookAbsent ∷ []) in
     record {
-      each = λ k lt. subst (LookedAs files file k) (sym (get_or-append looks rest no_journal k (omega arith))) (each k lt);
+      each = λ k lt. subst (LookedAs files file k) (sym (get_or-append looks rest LookAbsent k (omega arith))) (each k lt);
       rest = λ k le lt.
-          get_or-append_right looks rest k no_journal (omega arith) ∙ get_or-drop (m - 0) (x ∷ x ∷ x ∷ x ∷ []) (k - length looks) no_journal ∙ blank_at x (m - 0 + (k - length looks)) blank;
+          get_or-append_right looks rest k LookAbsent (omega arith) ∙ get_or-drop (m - 0) (LookAbsent ∷ LookAbsent ∷ LookAbsent ∷ LookAbsent ∷ []) (k - length looks) LookAbsent
+          ∙ blank_at (m - 0 + (k - length looks));
     }
 
 -- what a search for a journal told

@@ -9,14 +9,14 @@ use Rattle.journal.specs.declared.verdict.Verdict.TheVariants.{Spent, Sound}
 use Rattle.journal.specs.declared.verdict.Sound.{Sound as SoundParts}
 use Rattle.journal.proofs.Laws.{journal_laws}
 use Rattle.survey.specs.declared.report.Found.{Found}
-use Rattle.survey.specs.declared.report.Found.TheVariants.{Hot as FoundHot}
 use Rattle.survey.specs.declared.look.Link.{Link}
 use Rattle.survey.specs.declared.look.Link.TheVariants.{Ours as LinkOurs, Other as LinkOther}
 use Rattle.survey.specs.declared.look.Look.{Look}
+use Rattle.survey.specs.declared.look.Look.TheVariants.{Hot as LookHot}
 use Rattle.set_files.specs.Files.{Holds, Present}
 use Rattle.survey.specs.Finds.{AllPresent, HotAt, NamesOurs, Asked, Reported, ForeignJournal}
 use Rattle.survey.specs.Seen.{Seen, none, spent, hot, SeenAs, FoundOf, found_at, Hot, Orphan}
-use Rattle.survey.specs.Linked.{LinkBy, LinkOf, SuperLook, LookedAs, AllLooked, look_at}
+use Rattle.survey.specs.Linked.{found_of, link_of, LinkBy, LookOf, SuperLook, LookedAs, AllLooked, look_at}
 use Rattle.set_files.proofs.Played.{some_same}
 
 -- a sound verdict is that of a journal
@@ -28,7 +28,7 @@ module _ (files : Holds) (file : ℕ → Name) (d : ℕ) where
   -- a sound journal that names no super-journal is hot
   pub alone_hot :
       (b : Bytes) (j : Journal) (k : ℕ) → files (file (4 + d)) ≡ Some b → LawfulJournal j → b ≡ full j → None ≡ j.super → k ≡ length j.records →
-      LookedAs files file d (record { found = FoundHot k; link = None })
+      LookedAs files file d (LookHot k None)
   alone_hot b j k held ok is super count = (
     hot j,
     record {
@@ -36,8 +36,7 @@ module _ (files : Holds) (file : ℕ → Name) (d : ℕ) where
       held = held ∙ ap (λ (x : Bytes). Some x) is;
       present = λ w e gone. let z : ◌≡◌ {A = ℕ} 0 1 = cc in omega arith;
     },
-    count,
-    subst (λ (o : Option Name). LinkBy file o None) super refl,
+    (None, ap (λ (x : ℕ). LookHot x None) count, subst (λ (o : Option Name). LinkBy file o None) super refl),
   )
 
   -- one that names a super-journal is as that is
@@ -45,7 +44,7 @@ module _ (files : Holds) (file : ℕ → Name) (d : ℕ) where
       (b : Bytes) (j : Journal) (k : ℕ) (w : Name) (x : Look) → files (file (4 + d)) ≡ Some b → LawfulJournal j → b ≡ full j → Some w ≡ j.super → k ≡ length j.records →
       SuperLook files file k w x → LookedAs files file d x
   named_look b j k w x held ok is super count (inl gone) =
-      subst (LookedAs files file d) (sym gone.1) (spent, (b, held, inr (j, ok, is, (w, sym super, gone.0))), tt, refl)
+      subst (LookedAs files file d) (sym gone.1) (spent, (b, held, inr (j, ok, is, (w, sym super, gone.0))), refl)
   named_look b j k w x held ok is super count (inr there) = (
     hot j,
     record {
@@ -53,8 +52,7 @@ module _ (files : Holds) (file : ℕ → Name) (d : ℕ) where
       held = held ∙ ap (λ (x : Bytes). Some x) is;
       present = λ v e gone. let same : v ≡ w = cc (super, e) in there.0 (subst (λ (y : Name). files y ≡ None) same gone);
     },
-    subst (λ (f : Found). FoundOf (hot j) f) (sym there.1) count,
-    subst (λ (o : Option Name). LinkBy file o x.link) super there.2,
+    (Some there.1.0, there.1.1 ∙ ap (λ (x : ℕ). LookHot x (Some there.1.0)) count, subst (λ (o : Option Name). LinkBy file o (Some there.1.0)) super there.1.2),
   )
 
   -- a hot journal was seen as that
@@ -96,21 +94,35 @@ ours_told file w None h e = absurd h
 ours_told file w (Some LinkOurs) h e = refl
 ours_told file w (Some LinkOther) h e = absurd (h e)
 
+-- a look, as it is reported
+look_found : (file : ℕ → Name) (s : Seen) (x : Look) → LookOf file s x → FoundOf s (found_of x)
+look_found file none x e = subst (λ (y : Look). FoundOf none (found_of y)) (sym e) tt
+look_found file spent x e = subst (λ (y : Look). FoundOf spent (found_of y)) (sym e) tt
+look_found file (hot j) x h = subst (λ (y : Look). FoundOf (hot j) (found_of y)) (sym h.1) refl
+
+-- only a hot journal has a link
+look_linked : (file : ℕ → Name) (s : Seen) (x : Look) (l : Link) → LookOf file s x → link_of x ≡ Some l → (j : Journal) × (s ≡ hot j) × LinkBy file j.super (Some l)
+look_linked file none x l e is = let h = ap link_of e in let z : ◌≡◌ {A = ℕ} 0 1 = cc in absurd (omega arith)
+look_linked file spent x l e is = let h = ap link_of e in let z : ◌≡◌ {A = ℕ} 0 1 = cc in absurd (omega arith)
+look_linked file (hot j) x l h is = (j, refl, subst (LinkBy file j.super) (sym (ap link_of h.1) ∙ is) h.2)
+
 module _ (files : Holds) (file : ℕ → Name) where
   -- which super-journal a hot journal names
-  link_hot : (d : ℕ) (l : Look) (j : Journal) (w : Name) → LookedAs files file d l → HotAt files file d j → j.super ≡ Some w → LinkBy file (Some w) l.link
-  link_hot d l j w x h e =
-      subst (λ (o : Option Name). LinkBy file o l.link) e (subst (λ (s : Seen). LinkOf file s l.link) (seen_hot files file d x.0 j x.1 h) x.3)
+  link_hot : (d : ℕ) (x : Look) (j : Journal) (w : Name) → LookedAs files file d x → HotAt files file d j → j.super ≡ Some w → LinkBy file (Some w) (link_of x)
+  link_hot d x j w looked h e =
+      let as_hot : LookOf file (hot j) x = subst (λ (s : Seen). LookOf file s x) (seen_hot files file d looked.0 j looked.1 h) looked.2 in
+      subst (λ (o : Option Name). LinkBy file o (link_of x)) e (subst (LinkBy file j.super) (sym (ap link_of as_hot.1)) as_hot.2)
 
-  ours_hot : (d : ℕ) (s : Seen) → SeenAs files file d s → LinkOf file s (Some LinkOurs) → (j : Journal) × HotAt files file d j × (j.super ≡ Some (file 8))
-  ours_hot d none h l = let z : ◌≡◌ {A = ℕ} 0 1 = cc in absurd (omega arith)
-  ours_hot d spent h l = let z : ◌≡◌ {A = ℕ} 0 1 = cc in absurd (omega arith)
-  ours_hot d (hot j) h l = (j, h, link_is_ours file j.super l)
+  ours_hot : (d : ℕ) (x : Look) → LookedAs files file d x → link_of x ≡ Some LinkOurs → (j : Journal) × HotAt files file d j × (j.super ≡ Some (file 8))
+  ours_hot d x looked e =
+      let l = look_linked file looked.0 x LinkOurs looked.2 e in
+      (l.0, subst (SeenAs files file d) l.1 looked.1, link_is_ours file l.0.super l.2)
 
-  other_hot : (d : ℕ) (s : Seen) → SeenAs files file d s → LinkOf file s (Some LinkOther) → (j : Journal) × (w : Name) × HotAt files file d j × (j.super ≡ Some w) × (w ≡ file 8 → ⊥)
-  other_hot d none h l = let z : ◌≡◌ {A = ℕ} 0 1 = cc in absurd (omega arith)
-  other_hot d spent h l = let z : ◌≡◌ {A = ℕ} 0 1 = cc in absurd (omega arith)
-  other_hot d (hot j) h l = let o = link_is_other file j.super l in (j, o.0, h, o.1, o.2)
+  other_hot : (d : ℕ) (x : Look) → LookedAs files file d x → link_of x ≡ Some LinkOther → (j : Journal) × (w : Name) × HotAt files file d j × (j.super ≡ Some w) × (w ≡ file 8 → ⊥)
+  other_hot d x looked e =
+      let l = look_linked file looked.0 x LinkOther looked.2 e in
+      let o = link_is_other file l.0.super l.2 in
+      (l.0, o.0, subst (SeenAs files file d) l.1 looked.1, o.1, o.2)
 
   module _ (n : ℕ) (looks : List Look) (all : AllLooked files file n looks) where
     pub all_seen : (d : ℕ) → d < n → (s : Seen) × SeenAs files file d s
@@ -120,12 +132,12 @@ module _ (files : Holds) (file : ℕ → Name) where
     pick d (inl lt) = (all.each d lt).0
     pick d (inr le) = none
 
-    picked : (d : ℕ) (w : (d < n) ⊎ (n ≤ d)) → d < n → SeenAs files file d (pick d w) × FoundOf (pick d w) (look_at looks d).found
-    picked d (inl lt) less = ((all.each d lt).1, (all.each d lt).2)
+    picked : (d : ℕ) (w : (d < n) ⊎ (n ≤ d)) → d < n → SeenAs files file d (pick d w) × FoundOf (pick d w) (found_of (look_at looks d))
+    picked d (inl lt) less = let x = all.each d lt in (x.1, look_found file x.0 (look_at looks d) x.2)
     picked d (inr le) less = absurd (omega arith)
 
     -- what was found, as it is told
-    pub reported : (found : List Found) → n ≤ 4 → ((d : ℕ) → d < 4 → found_at found d ≡ (look_at looks d).found) → Reported files file n found
+    pub reported : (found : List Found) → n ≤ 4 → ((d : ℕ) → d < 4 → found_at found d ≡ found_of (look_at looks d)) → Reported files file n found
     reported found few is =
         record {
           seen = all_seen;
@@ -133,46 +145,44 @@ module _ (files : Holds) (file : ℕ → Name) where
             λ d. pick d (cases_lt d n),
             λ d lt. let p = picked d (cases_lt d n) lt in (p.0, subst (FoundOf (pick d (cases_lt d n))) (sym (is d (omega arith))) p.1),
           );
-          rest = λ d le lt. is d lt ∙ ap (λ (x : Look). x.found) (all.rest d le lt);
+          rest = λ d le lt. is d lt ∙ ap found_of (all.rest d le lt);
         }
 
     -- a journal with a link is one of the set's
-    linked_below : (d : ℕ) (l : Link) → d < 4 → (look_at looks d).link ≡ Some l → d < n
+    linked_below : (d : ℕ) (l : Link) → d < 4 → link_of (look_at looks d) ≡ Some l → d < n
     linked_below d l lt e = by (cases_lt d n)
       where
         by : (d < n) ⊎ (n ≤ d) → d < n
         by (inl less) = less
-        by (inr le) = let none = ap (λ (x : Look). x.link) (all.rest d le lt) in let z : ◌≡◌ {A = ℕ} 0 1 = cc in absurd (omega arith)
+        by (inr le) = let none = ap link_of (all.rest d le lt) in let z : ◌≡◌ {A = ℕ} 0 1 = cc in absurd (omega arith)
 
     -- up to a place where none names another super-journal
-    pub names_ours : (k : ℕ) → k ≤ n → n ≤ 4 → ((d : ℕ) → d < k → (look_at looks d).link ≡ Some LinkOther → ⊥) → NamesOurs files file k
-    names_ours k le few none_other d j w lt h e = ours_or_not file w (look_at looks d).link (link_hot d (look_at looks d) j w (all.each d (omega arith)) h e) (none_other d lt)
+    pub names_ours : (k : ℕ) → k ≤ n → n ≤ 4 → ((d : ℕ) → d < k → link_of (look_at looks d) ≡ Some LinkOther → ⊥) → NamesOurs files file k
+    names_ours k le few none_other d j w lt h e = ours_or_not file w (link_of (look_at looks d)) (link_hot d (look_at looks d) j w (all.each d (omega arith)) h e) (none_other d lt)
 
-    pub asked_by : (d : ℕ) → d < 4 → (look_at looks d).link ≡ Some LinkOurs → Asked files file n
+    pub asked_by : (d : ℕ) → d < 4 → link_of (look_at looks d) ≡ Some LinkOurs → Asked files file n
     asked_by d small e =
         let lt = linked_below d LinkOurs small e in
-        let x = all.each d lt in
-        let o = ours_hot d x.0 x.1 (subst (LinkOf file x.0) e x.3) in
+        let o = ours_hot d (look_at looks d) (all.each d lt) e in
         (d, o.0, lt, o.1, o.2)
 
     -- the first that names another super-journal
     pub foreign_by :
-        (d : ℕ) → AllPresent files file n → d < 4 → (look_at looks d).link ≡ Some LinkOther → ((i : ℕ) → i < d → (look_at looks i).link ≡ Some LinkOther → ⊥) → n ≤ 4 → ForeignJournal files file n d
+        (d : ℕ) → AllPresent files file n → d < 4 → link_of (look_at looks d) ≡ Some LinkOther → ((i : ℕ) → i < d → link_of (look_at looks i) ≡ Some LinkOther → ⊥) → n ≤ 4 → ForeignJournal files file n d
     foreign_by d present small e before few =
         let lt = linked_below d LinkOther small e in
-        let x = all.each d lt in
         record {
           within = lt;
           present = present;
           seen = all_seen;
           before = names_ours d (omega arith) few before;
-          foreign = other_hot d x.0 x.1 (subst (LinkOf file x.0) e x.3);
+          foreign = other_hot d (look_at looks d) (all.each d lt) e;
         }
 
-    pub none_asked : n ≤ 4 → ((d : ℕ) → d < 4 → (look_at looks d).link ≡ Some LinkOurs → ⊥) → Asked files file n → ⊥
+    pub none_asked : n ≤ 4 → ((d : ℕ) → d < 4 → link_of (look_at looks d) ≡ Some LinkOurs → ⊥) → Asked files file n → ⊥
     none_asked few none-ours a =
         let lt : a.0 < n = a.2 in
-        none-ours a.0 (omega arith) (ours_told file (file 8) (look_at looks a.0).link (link_hot a.0 (look_at looks a.0) a.1 (file 8) (all.each a.0 a.2) a.3 a.4) refl)
+        none-ours a.0 (omega arith) (ours_told file (file 8) (link_of (look_at looks a.0)) (link_hot a.0 (look_at looks a.0) a.1 (file 8) (all.each a.0 a.2) a.3 a.4) refl)
 
   pub asked_present : (n : ℕ) → Asked files file n → Present (files (file 8))
   asked_present n a = not_none (files (file 8)) (λ gone. a.3.present (file 8) a.4 gone)

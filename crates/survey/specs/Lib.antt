@@ -1,3 +1,4 @@
 pub mod Seen
 pub mod Finds
 pub mod Linked
+pub mod Tells

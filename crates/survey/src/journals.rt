@@ -1,14 +1,12 @@
 // The journals of a set, judged in order.
-ghost use Rattle.std.specs.Prelude.{◌≡◌, ℕ, ◌+◌, ◌<◌, ◌≤◌, Some, MatchOption, ◌≢◌};
+ghost use Rattle.std.specs.Prelude.{◌≡◌, ℕ, ◌<◌, Some, MatchOption, ◌≢◌};
 ghost use Rattle.refusal.specs.declared.step.Step.TheVariants.{R1};
-ghost use Rattle.names.specs.Files.{how_many, file_of};
-ghost use Rattle.set_files.specs.Looked.{Looked, Told, dropped, never, never₂};
-ghost use Rattle.survey.specs.Finds.{DamagedAt};
-ghost use Rattle.survey.specs.Linked.{LinkAs, SuperLook, LookedAs, AllLooked, look_at};
-ghost use Rattle.survey.specs.Seen.{Seen, SeenAs};
+ghost use Rattle.names.specs.Files.{file_of};
+ghost use Rattle.set_files.specs.Looked.{OnlyLooked};
+ghost use Rattle.survey.specs.Linked.{LinkAs, look_at, link_of};
+ghost use Rattle.survey.specs.Tells.{TellsNamed, TellsJournal, TellsJournals};
 
 use crate::look::{Link, Look};
-use crate::report::Found;
 use card::Card;
 use journal::{JOURNAL_LIMIT, Verdict};
 use names::{DATABASES, Names, SUPER_JOURNAL};
@@ -34,8 +32,8 @@ fn look_at_super<C: Card>(
     records: u32,
     name: &[u8],
 ) -> Result<Look, Refusal>
-    ensures looked { Looked C.Card.meaning R1 (file_of names.now) card.old (dropped result) card.new }
-    ensures told { Told result (SuperLook (C.Card.meaning.holds card.old) (file_of names.now) records name.now) never₂ never never }
+    ensures looked { OnlyLooked C.Card.meaning R1 names.now card.old result card.new }
+    ensures told { TellsNamed C.Card.meaning names.now card.old records name.now result }
 {
     let link = link_of(names, name);
     let file = match link {
@@ -43,9 +41,9 @@ fn look_at_super<C: Card>(
         Link::Other => FOREIGN,
     };
     match Site::new(Step::R1, file).length(card, name)? {
-        None => Ok(Look::alone(Found::Spent)),
-        Some(_) => Ok(Look {
-            found: Found::Hot { records },
+        None => Ok(Look::Spent),
+        Some(_) => Ok(Look::Hot {
+            records,
             link: Some(link),
         }),
     }
@@ -59,19 +57,20 @@ fn judge_journal<C: Card>(
     buffer: &mut [u8; JOURNAL_LIMIT],
 ) -> Result<Look, Refusal>
     requires { d < 4 }
-    ensures looked { Looked C.Card.meaning R1 (file_of names.now) card.old (dropped result) card.new }
-    ensures told { Told result (LookedAs (C.Card.meaning.holds card.old) (file_of names.now) d) (λ f k. (f ≡ 4 + d) × DamagedAt (C.Card.meaning.holds card.old) (file_of names.now) d k) never never }
+    ensures looked { OnlyLooked C.Card.meaning R1 names.now card.old result card.new }
+    ensures told { TellsJournal C.Card.meaning names.now card.old d result }
 {
     let file = DATABASES + d;
     match judge_numbered(card, names, Step::R1, file, buffer)? {
-        None => Ok(Look::alone(Found::None)),
-        Some(Verdict::Spent) => Ok(Look::alone(Found::Spent)),
+        None => Ok(Look::Absent),
+        Some(Verdict::Spent) => Ok(Look::Spent),
         Some(Verdict::Damaged { record }) => Err(Refusal::Damaged { file, record }),
         Some(Verdict::Sound(sound)) => match sound.super_journal(journal_in(buffer, &sound)) {
             Some(name) => look_at_super(card, names, sound.count, name),
-            None => Ok(Look::alone(Found::Hot {
+            None => Ok(Look::Hot {
                 records: sound.count,
-            })),
+                link: None,
+            }),
         },
     }
 }
@@ -82,10 +81,10 @@ pub(crate) fn judge_journals<C: Card>(
     names: &Names,
     buffer: &mut [u8; JOURNAL_LIMIT],
 ) -> Result<[Look; DATABASES], Refusal>
-    ensures looked { Looked C.Card.meaning R1 (file_of names.now) card.old (dropped result) card.new }
-    ensures told { Told result (AllLooked (C.Card.meaning.holds card.old) (file_of names.now) (how_many names.now)) (λ f k. (d : ℕ) × (f ≡ 4 + d) × (d < how_many names.now) × ((i : ℕ) → i < d → (s : Seen) × SeenAs (C.Card.meaning.holds card.old) (file_of names.now) i s) × DamagedAt (C.Card.meaning.holds card.old) (file_of names.now) d k) never never }
+    ensures looked { OnlyLooked C.Card.meaning R1 names.now card.old result card.new }
+    ensures told { TellsJournals C.Card.meaning names.now card.old result }
 {
-    let mut looks = [Look::alone(Found::None); DATABASES];
+    let mut looks = [Look::Absent; DATABASES];
     let kept = &mut looks[0..names.count()];
     for (d, look) in kept.iter_mut().enumerate() {
         *look = judge_journal(card, names, d, buffer)?;
@@ -95,7 +94,7 @@ pub(crate) fn judge_journals<C: Card>(
 
 /// The first journal that names such a super-journal.
 pub(crate) fn first_linked(looks: &[Look; DATABASES], link: Link) -> Option<usize>
-    ensures { MatchOption result ((d : ℕ) → d < 4 → (look_at looks.now d).link ≢ Some link) (λ d. (d < 4) × ((look_at looks.now d).link ≡ Some link) × ((i : ℕ) → i < d → (look_at looks.now i).link ≢ Some link)) }
+    ensures { MatchOption result ((d : ℕ) → d < 4 → link_of (look_at looks.now d) ≢ Some link) (λ d. (d < 4) × (link_of (look_at looks.now d) ≡ Some link) × ((i : ℕ) → i < d → link_of (look_at looks.now i) ≢ Some link)) }
 {
-    looks.iter().position(|look| look.link == Some(link))
+    looks.iter().position(|look| look.link() == Some(link))
 }

@@ -1,13 +1,12 @@
 // The set's super-journal, and the files that it lists.
 ghost use Rattle.std.specs.Prelude.{◌≡◌, ℕ, ◌<◌, ◌≤◌, ◌⊎◌, List, length as count_of, take, IfOk, Some, None, MatchOption};
 ghost use Rattle.card.specs.Calls.{part};
-ghost use Rattle.card.specs.Meaning.{Name};
 ghost use Rattle.super_journal.specs.Super.{LawfulNames, lying_at};
 ghost use Rattle.refusal.specs.declared.step.Step.TheVariants.{R1};
-ghost use Rattle.names.specs.Files.{how_many, file_of};
+ghost use Rattle.names.specs.Files.{file_of};
 ghost use Rattle.set_files.specs.Files.{Present};
-ghost use Rattle.survey.specs.Finds.{JournalName, NoNames, AllFine, Stray, Listed, Strays};
-ghost use Rattle.set_files.specs.Looked.{Looked, Told, dropped, ended, never, never₂};
+ghost use Rattle.set_files.specs.Looked.{Looked, OnlyLooked, ended};
+ghost use Rattle.survey.specs.Tells.{TellsListed, TellsNames, TellsList, TellsSuper};
 
 use card::Card;
 use journal::{JOURNAL_LIMIT, Span};
@@ -35,8 +34,8 @@ fn name_at(bytes: &[u8], span: Span) -> &[u8]
 
 /// Tests that a listed file is a journal of the set, or absent.
 fn check_listed<C: Card>(card: &mut C, names: &Names, name: &[u8]) -> Result<(), Refusal>
-    ensures looked { Looked C.Card.meaning R1 (file_of names.now) card.old (dropped result) card.new }
-    ensures told { Told result (λ _. JournalName (file_of names.now) (how_many names.now) name.now ⊎ (C.Card.meaning.holds card.old name.now ≡ None)) never₂ (λ f. (f ≡ 9) × (JournalName (file_of names.now) (how_many names.now) name.now → ⊥) × Present (C.Card.meaning.holds card.old name.now)) never }
+    ensures looked { OnlyLooked C.Card.meaning R1 names.now card.old result card.new }
+    ensures told { TellsListed C.Card.meaning names.now card.old name.now result }
 {
     if names.is_journal(name) {
         return Ok(());
@@ -55,8 +54,8 @@ fn check_names<C: Card>(
     places: &[Span],
 ) -> Result<(), Refusal>
     requires { LawfulNames (lying_at bytes.now places.now) }
-    ensures looked { Looked C.Card.meaning R1 (file_of names.now) card.old (dropped result) card.new }
-    ensures told { Told result (λ _. AllFine (C.Card.meaning.holds card.old) (file_of names.now) (how_many names.now) (lying_at bytes.now places.now)) never₂ (λ f. (f ≡ 9) × Stray (C.Card.meaning.holds card.old) (file_of names.now) (how_many names.now) (lying_at bytes.now places.now)) never }
+    ensures looked { OnlyLooked C.Card.meaning R1 names.now card.old result card.new }
+    ensures told { TellsNames C.Card.meaning names.now card.old (lying_at bytes.now places.now) result }
 {
     for span in places {
         check_listed(card, names, name_at(bytes, *span))?;
@@ -66,34 +65,31 @@ fn check_names<C: Card>(
 
 /// Tests that the bytes are a list of names, and each file of it.
 fn check_list<C: Card>(card: &mut C, names: &Names, bytes: &[u8]) -> Result<(), Refusal>
-    ensures looked { Looked C.Card.meaning R1 (file_of names.now) card.old (dropped result) card.new }
-    ensures told { Told result (λ _. (ns : List Name) × Listed (C.Card.meaning.holds card.old) (file_of names.now) (how_many names.now) bytes.now ns) (λ f k. (f ≡ 8) × (k ≡ 0) × NoNames bytes.now) (λ f. (f ≡ 9) × ((ns : List Name) × Strays (C.Card.meaning.holds card.old) (file_of names.now) (how_many names.now) bytes.now ns)) never }
+    ensures looked { OnlyLooked C.Card.meaning R1 names.now card.old result card.new }
+    ensures told { TellsList C.Card.meaning names.now card.old bytes.now result }
 {
     let list = read_names(bytes).ok_or(NO_LIST)?;
     check_names(card, names, bytes, list.as_slice())
 }
 
-/// Reads the present super-journal to the front of the buffer, and tells its length; none if it is
-/// longer than the buffer.
-fn read_super<C: Card>(
+/// The bytes of the present super-journal, read into the buffer; none if it is longer.
+fn read_super<'a, C: Card>(
     card: &mut C,
     names: &Names,
-    buffer: &mut [u8; JOURNAL_LIMIT],
-) -> Result<Option<usize>, SetFault>
+    buffer: &'a mut [u8; JOURNAL_LIMIT],
+) -> Result<Option<&'a [u8]>, SetFault>
     requires { Present (C.Card.meaning.holds card.old (file_of names.now 8)) }
     ensures looked { Looked C.Card.meaning R1 (file_of names.now) card.old (ended result) card.new }
-    ensures told { IfOk result (λ o. (b : List ℕ) × (C.Card.meaning.holds card.old (file_of names.now 8) ≡ Some b) × MatchOption o (17724 < count_of b) (λ n. (n ≡ count_of b) × (n ≤ 17724) × (take n buffer.new ≡ b))) }
+    ensures told { IfOk result (λ o. (b : List ℕ) × (C.Card.meaning.holds card.old (file_of names.now 8) ≡ Some b) × MatchOption o (17724 < count_of b) (λ bytes. bytes.now ≡ b)) }
 {
-    let Some(length) = length_of(card, names, Step::R1, SUPER_JOURNAL)? else {
-        unreachable()
-    };
-    let length = length as usize;
+    let length = length_of(card, names, Step::R1, SUPER_JOURNAL)?.unwrap() as usize;
     if length > JOURNAL_LIMIT {
         return Ok(None);
     }
+    let front = &mut buffer[..length];
     let name = names.file(SUPER_JOURNAL);
-    Site::new(Step::R1, SUPER_JOURNAL).read(card, name.bytes(), 0, &mut buffer[0..length])?;
-    Ok(Some(length))
+    Site::new(Step::R1, SUPER_JOURNAL).read(card, name.bytes(), 0, front)?;
+    Ok(Some(front))
 }
 
 /// Tests the set's super-journal, which is present: its form, and the files that it lists.
@@ -103,9 +99,9 @@ pub(crate) fn check_super<C: Card>(
     buffer: &mut [u8; JOURNAL_LIMIT],
 ) -> Result<(), Refusal>
     requires { Present (C.Card.meaning.holds card.old (file_of names.now 8)) }
-    ensures looked { Looked C.Card.meaning R1 (file_of names.now) card.old (dropped result) card.new }
-    ensures told { Told result (λ _. (b : List ℕ) × (C.Card.meaning.holds card.old (file_of names.now 8) ≡ Some b) × ((ns : List Name) × Listed (C.Card.meaning.holds card.old) (file_of names.now) (how_many names.now) b ns)) (λ f k. (f ≡ 8) × (k ≡ 0) × ((b : List ℕ) × (C.Card.meaning.holds card.old (file_of names.now 8) ≡ Some b) × NoNames b)) (λ f. (f ≡ 9) × ((b : List ℕ) × (C.Card.meaning.holds card.old (file_of names.now 8) ≡ Some b) × ((ns : List Name) × Strays (C.Card.meaning.holds card.old) (file_of names.now) (how_many names.now) b ns))) never }
+    ensures looked { OnlyLooked C.Card.meaning R1 names.now card.old result card.new }
+    ensures told { TellsSuper C.Card.meaning names.now card.old result }
 {
-    let length = read_super(card, names, buffer)?.ok_or(NO_LIST)?;
-    check_list(card, names, &buffer[0..length])
+    let bytes = read_super(card, names, buffer)?.ok_or(NO_LIST)?;
+    check_list(card, names, bytes)
 }

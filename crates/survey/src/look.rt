@@ -1,5 +1,6 @@
 // What is found of one journal.
-ghost use Rattle.std.specs.Prelude.{◌≡◌, None};
+ghost use Rattle.std.specs.Prelude.{◌≡◌};
+ghost use Rattle.survey.specs.Linked.{found_of, link_of};
 
 use crate::report::Found;
 
@@ -10,18 +11,34 @@ pub(crate) enum Link {
     Other,
 }
 
-/// What a journal is, and which super-journal it names if it is hot and names one.
+/// What a journal is. Only a hot one has a link: which super-journal it names, if it names one.
 #[derive(Clone, Copy)]
-pub(crate) struct Look {
-    pub found: Found,
-    pub link: Option<Link>,
+pub(crate) enum Look {
+    Absent,
+    Spent,
+    Hot { records: u32, link: Option<Link> },
 }
 
 impl Look {
-    /// A journal with no link to a super-journal.
-    pub(crate) fn alone(found: Found) -> Look
-        ensures { result ≡ record { found = found; link = None } }
+    /// Which super-journal the journal names, if it is hot and names one.
+    pub(crate) fn link(self) -> Option<Link>
+        ensures { result ≡ link_of self }
     {
-        Look { found, link: None }
+        match self {
+            Look::Absent | Look::Spent => None,
+            Look::Hot { link, .. } => link,
+        }
+    }
+}
+
+impl From<Look> for Found {
+    ghost from_gives = { λ look r. r ≡ found_of look };
+
+    fn from(look: Look) -> Found {
+        match look {
+            Look::Absent => Found::None,
+            Look::Spent => Found::Spent,
+            Look::Hot { records, .. } => Found::Hot { records },
+        }
     }
 }

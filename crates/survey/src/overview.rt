@@ -2,9 +2,9 @@
 ghost use Rattle.std.specs.Prelude.{◌≡◌, ℕ, ◌<◌};
 ghost use Rattle.refusal.specs.declared.step.Step.TheVariants.{R1};
 ghost use Rattle.names.specs.Files.{how_many, file_of};
-ghost use Rattle.set_files.specs.Looked.{Looked, dropped};
+ghost use Rattle.set_files.specs.Looked.{OnlyLooked};
 ghost use Rattle.survey.specs.Finds.{Finds};
-ghost use Rattle.survey.specs.Linked.{look_at};
+ghost use Rattle.survey.specs.Linked.{look_at, found_of};
 ghost use Rattle.survey.specs.Seen.{found_at};
 
 use crate::journals::{first_linked, judge_journals};
@@ -18,10 +18,10 @@ use names::{DATABASES, Names};
 use refusal::Refusal;
 
 /// What each journal was found to be.
-fn found_of(looks: [Look; DATABASES]) -> [Found; DATABASES]
-    ensures { (d : ℕ) → d < 4 → found_at result d ≡ (look_at looks d).found }
+fn found_in(looks: [Look; DATABASES]) -> [Found; DATABASES]
+    ensures { (d : ℕ) → d < 4 → found_at result d ≡ found_of (look_at looks d) }
 {
-    looks.map(|look| look.found)
+    looks.map(Found::from)
 }
 
 /// What each database's journal is. It is refused, in this order, for an absent database, a damaged
@@ -32,7 +32,7 @@ pub fn survey<C: Card>(
     names: &Names,
     buffer: &mut [u8; JOURNAL_LIMIT],
 ) -> Result<[Found; DATABASES], Refusal>
-    ensures looked { Looked C.Card.meaning R1 (file_of names.now) card.old (dropped result) card.new }
+    ensures looked { OnlyLooked C.Card.meaning R1 names.now card.old result card.new }
     ensures told { Finds (C.Card.meaning.holds card.old) (file_of names.now) (how_many names.now) result }
 {
     all_present(card, names)?;
@@ -43,5 +43,5 @@ pub fn survey<C: Card>(
     if first_linked(&looks, Link::Ours).is_some() {
         check_super(card, names, buffer)?;
     }
-    Ok(found_of(looks))
+    Ok(found_in(looks))
 }

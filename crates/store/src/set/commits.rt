@@ -1,7 +1,7 @@
 // Committing the running transaction.
 ghost use Rattle.std.specs.Prelude.{◌≡◌};
 ghost use Rattle.store.specs.Calls.{told, ButRun};
-ghost use Rattle.store.specs.Commits.{Commits, Concluded, nonce_of};
+ghost use Rattle.store.specs.Commits.{Commits, Concluded};
 ghost use Rattle.store.specs.Modes.{says};
 ghost use Rattle.store.specs.declared.mode.Call.TheVariants.{End};
 
@@ -14,17 +14,6 @@ use refusal::{Refusal, SetFault};
 use sizes::Sizes;
 
 impl<C> Set<C> {
-    /// The nonce of the running transaction; 0 if none runs.
-    // No Option: it is asked before the call is admitted, and used only after, when one ran.
-    fn nonce(&self) -> u32
-        ensures { result ≡ nonce_of self.now.mode }
-    {
-        match self.mode {
-            Mode::Running { nonce, .. } => nonce,
-            Mode::Cold | Mode::Ready => 0,
-        }
-    }
-
     /// What the commit answered, as the set tells it. With all journals gone the set is ready, else it is
     /// cold; done, the sizes of the memory are stored.
     fn conclude(&mut self, answer: Result<usize, SetFault>) -> Result<usize, Refusal>
@@ -34,9 +23,7 @@ impl<C> Set<C> {
     {
         match answer {
             Ok(left) => {
-                let Some(grown) = Sizes::checked(self.memory.sizes()) else {
-                    unreachable()
-                };
+                let grown = Sizes::checked(self.memory.sizes()).unwrap();
                 let mode = if left == 0 { Mode::Ready } else { Mode::Cold };
                 self.clear(mode, grown);
                 Ok(left)
@@ -57,7 +44,9 @@ impl<C: Card> Set<C> {
         ensures { Commits C.Card.meaning self.old result self.new (says self.old.mode self.old.begun (End t.number)) }
     {
         let number = t.end();
-        let nonce = self.nonce();
+        let Mode::Running { nonce, .. } = self.mode else {
+            return Err(Refusal::Transaction);
+        };
         self.admit(Call::End { number })?;
         let answer = commit(
             &mut self.card,

@@ -21,9 +21,7 @@ impl<C> Set<C> {
     {
         match answer {
             Ok(recovery) => {
-                let Some(sizes) = Sizes::checked(recovery.sizes) else {
-                    unreachable()
-                };
+                let sizes = Sizes::checked(recovery.sizes).unwrap();
                 self.clear(Mode::Ready, sizes);
                 Ok(recovery)
             }

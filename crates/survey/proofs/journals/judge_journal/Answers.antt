@@ -56,5 +56,4 @@ returns-in-None-super_journal-clause-told g c =
     let t = told_judged _ _ _ _ _ c.in-Some-Sound.is c.in_ok-judge_numbered.ensures.told in
     let s = judged_sound _ _ _ t.2 c.in-Some-Sound.field-0-is in
     let of = c.journal_in.ensures s.0 _ s.1 s.3 (journal_read c.args.buffer.now _ t.0 s.0 s.1 s.2 t.3) in
-    rw c.alone-in-None-super_journal.ensures
-    (alone_hot (g.C.Card.meaning.holds c.args.card.now) (file_of c.args.names.now) c.args.d t.0 s.0 _ t.1 s.1 s.2 (c.in-None-super_journal.ensures.told s.0 of) s.3.count)
+    alone_hot (g.C.Card.meaning.holds c.args.card.now) (file_of c.args.names.now) c.args.d t.0 s.0 _ t.1 s.1 s.2 (c.in-None-super_journal.ensures.told s.0 of) s.3.count

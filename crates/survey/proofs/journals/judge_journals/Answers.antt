@@ -38,4 +38,4 @@ loop-d-preserved g c =
 pub returns-clause-told : goal.returns-clause-told
 returns-clause-told g c =
     let long : length c.loop-d.kept ≡ how_many c.args.names.now = omega arith in
-    all_looked _ _ _ c.count.result _ _ c.count.ensures long c.alone-looks.ensures (λ k lt. c.loop-d.invariant.1 k (omega arith))
+    all_looked _ _ _ c.count.result _ c.count.ensures long (λ k lt. c.loop-d.invariant.1 k (omega arith))

@@ -129,7 +129,7 @@ returns-clause-told g c =
     let same = looked_same _ _ _ _ _ (looked_then _ _ _ _ _ _ _ first.looked c.in_ok-looks.ensures.looked) in
     record {
       present = first.told;
-      journals = reported files file n looks all c.found_of.result few c.found_of.ensures;
+      journals = reported files file n looks all c.found_in.result few c.found_in.ensures;
       ours = names_ours files file n looks all n (omega arith) few (λ d lt e. c.in_default.ensures d (omega arith) e);
       listed = λ a.
           elim c.if-is_some.branch [
