@@ -6,7 +6,7 @@ mod file_name;
 mod list_refusal;
 mod names;
 
-pub use file::SUPER_JOURNAL;
+pub use file::{SUPER_JOURNAL, journal_of};
 pub use file_name::FileName;
 pub use list_refusal::ListRefusal;
 pub use names::{DATABASES, Names, checked};

@@ -88,9 +88,7 @@ fn copied(list: &[&[u8]]) -> Few<Few<u8, 24>, 4>
 {
     let mut names = Few::new(Few::new(0));
     for name in list {
-        let mut row = Few::new(0);
-        row.extend_from_slice(name);
-        names.push(row);
+        names.push(Few::from_slice(name, 0));
     }
     names
 }

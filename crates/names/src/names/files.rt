@@ -4,9 +4,9 @@ ghost use Rattle.std.specs.Option.{option_map};
 ghost use Rattle.names.specs.Names.{journal_ending, super_ending, listed, held, is_file, file_name, JournalOf};
 ghost use Rattle.names.specs.Files.{names_of, file_of, how_many};
 
-use crate::file::{File, SUPER_JOURNAL};
+use crate::file::{File, SUPER_JOURNAL, journal_of};
 use crate::file_name::FileName;
-use crate::names::{DATABASES, Names};
+use crate::names::Names;
 use few::Few;
 
 /// What the name of a journal ends with.
@@ -64,7 +64,7 @@ impl Names {
     pub fn is_journal(&self, name: &[u8]) -> bool
         ensures { Decides result (JournalOf (names_of self.now) name.now) }
     {
-        (0..self.count()).any(|i| self.file(DATABASES + i).bytes() == name)
+        (0..self.count()).any(|i| self.file(journal_of(i)).bytes() == name)
     }
 
     /// The name of the super-journal.
