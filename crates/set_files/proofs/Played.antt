@@ -1,14 +1,13 @@
 -- The bytes and the records of a journal that is played back.
-use Rattle.std.proofs.Common.{◌≡◌, ℕ, zero, suc, ◌+◌, ◌-◌, ◌*◌, ◌<◌, ◌≤◌, List, [], ◌∷◌, length, take, drop, Some, None, Ok, Option, MatchOption, sym, ap, ◌∙◌, subst, arith}
+use Rattle.std.proofs.Common.{◌≡◌, ℕ, zero, suc, ◌+◌, ◌<◌, ◌≤◌, List, [], ◌∷◌, length, take, drop, Some, None, Ok, Option, sym, ap, ◌∙◌, subst, arith}
 use Rattle.std.proofs.lemmas.List.{take_at, take_all}
 use Rattle.card.specs.Meaning.{Bytes, Name}
 use Rattle.card.specs.Calls.{overwrite}
 use Rattle.journal.specs.Format.{Journal, PageRecord, LawfulJournal, LawfulName, Ascending, full, record_of, super_bytes}
-use Rattle.journal.specs.Judged.{Judged, Parts, name_span, record_place}
+use Rattle.journal.specs.Judged.{Judged, Parts, record_place}
 use Rattle.journal.specs.declared.verdict.Verdict.{Verdict}
 use Rattle.journal.specs.declared.verdict.Verdict.TheVariants.{Sound}
 use Rattle.journal.specs.declared.verdict.Sound.{Sound as SoundParts}
-use Rattle.journal.specs.declared.verdict.Span.{Span}
 use Rattle.journal.proofs.Encoded.{length_encode, length_super}
 use Rattle.journal.proofs.Laws.{journal_laws}
 use Rattle.set_files.specs.Files.{ToldVerdict}
@@ -23,18 +22,6 @@ ascending_at size last (r ∷ rs) (suc k) a lt = let h = ascending_at size r.pag
 pub page_bounds : (j : Journal) (k : ℕ) → LawfulJournal j → k < length j.records → (1 ≤ (record_of j.records k).page) × ((record_of j.records k).page ≤ 4096)
 page_bounds j k ok lt = let h = ascending_at j.size 0 j.records k ok.each lt in (omega (arith, h.0), omega (arith, h.1, ok.size))
 
--- how long a journal is, by its parts and by what its super-journal's name takes
-pub length_named :
-    (s : SoundParts) (j : Journal) (k : ℕ) → LawfulJournal j → Parts s j → MatchOption s.name (k ≡ 0) (λ x. k ≡ x.length + 20) → 512 + 520 * s.count + k ≡ length (full j)
-unfolding super_bytes
-length_named s j k ok p h = by j.super (omega (arith, length_encode (length j.records) j ok, p.count)) (subst (λ (o : Option Span). MatchOption o (k ≡ 0) (λ x. k ≡ x.length + 20)) p.name h)
-  where
-    by :
-        (o : Option Name) → length (full j) ≡ 512 + 520 * s.count + length (super_bytes o) → MatchOption (name_span s.count o) (k ≡ 0) (λ x. k ≡ x.length + 20) →
-        512 + 520 * s.count + k ≡ length (full j)
-    by None long is = omega (arith, long, is)
-    by (Some n) long is = omega (arith, long, length_super n, is)
-
 -- no journal is longer than the buffer
 pub length_limit : (j : Journal) → LawfulJournal j → length (full j) ≤ 17724
 unfolding super_bytes
@@ -45,8 +32,8 @@ length_limit j ok = by j.super ok.name (length_encode (length j.records) j ok)
     by (Some n) short long = omega (arith, long, length_super n, ok.few, short.1)
 
 -- the front of the buffer is the journal
-pub front_of : (buffer old b : Bytes) (n : ℕ) → buffer ≡ overwrite old 0 b → n ≡ length b → take (n - 0) buffer ≡ b
-front_of buffer old b n e size = ap (take (n - 0)) e ∙ take_at b (drop (0 + length b) old) (n - 0) (omega arith)
+pub front_of : (buffer old b : Bytes) (n : ℕ) → buffer ≡ overwrite old 0 b → n ≡ length b → take n buffer ≡ b
+front_of buffer old b n e size = ap (take n) e ∙ take_at b (drop (0 + length b) old) n (omega arith)
 
 pub some_same : (f : Option Bytes) (a b : Bytes) → f ≡ Some a → f ≡ Some b → a ≡ b
 some_same f a b p q = cc

@@ -12,7 +12,8 @@ ghost use Rattle.settling.specs.Settled.{record_task, write_tasks, finish_tasks,
 
 use card::Card;
 use journal::{JOURNAL_LIMIT, PAGE, Sound, Verdict};
-use names::{DATABASES, Names};
+use names::{Names, journal_of};
+use page_map::page_place;
 use refusal::{SetFault, Step};
 use set_files::{delete_file, journal_in, judge_numbered};
 use steps::Site;
@@ -34,7 +35,7 @@ fn write_record<C: Card>(
     Site::of_record(Step::R2, d, index + 1).write(
         card,
         names.file(d).bytes(),
-        (number - 1) * PAGE as u32,
+        page_place(number),
         page,
     )
 }
@@ -66,7 +67,7 @@ fn finish<C: Card>(card: &mut C, names: &Names, d: usize, size: u32) -> Result<(
     let site = Site::new(Step::R2, d);
     site.set_length(card, name.bytes(), size * PAGE as u32)?;
     site.sync(card, name.bytes())?;
-    delete_file(card, names, Step::R2, DATABASES + d)
+    delete_file(card, names, Step::R2, journal_of(d))
 }
 
 /// Reads a hot journal again, whole, and tells its parts.
@@ -81,7 +82,7 @@ fn reread<C: Card>(
     ensures went { (j : Journal) → LawfulJournal j → C.Card.meaning.holds card.old (file_of names.now (4 + d)) ≡ Some (full j) → Went C.Card.meaning (tasks (at R2 (4 + d)) (judge_acts (file_of names.now (4 + d)) (Some (full j)))) card.old result card.new }
     ensures told { IfOk result (λ s. (j : Journal) → LawfulJournal j → C.Card.meaning.holds card.old (file_of names.now (4 + d)) ≡ Some (full j) → Parts s j × (buffer.new ≡ overwrite buffer.old 0 (full j))) }
 {
-    let verdict = judge_numbered(card, names, Step::R2, DATABASES + d, buffer)?.unwrap();
+    let verdict = judge_numbered(card, names, Step::R2, journal_of(d), buffer)?.unwrap();
     let Verdict::Sound(sound) = verdict else {
         unreachable()
     };

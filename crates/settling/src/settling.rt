@@ -8,7 +8,7 @@ ghost use Rattle.settling.specs.Settled.{restore_tasks, all_tasks, super_tasks, 
 use crate::playback::play;
 use card::Card;
 use journal::JOURNAL_LIMIT;
-use names::{DATABASES, Names, SUPER_JOURNAL};
+use names::{DATABASES, Names, SUPER_JOURNAL, journal_of};
 use refusal::{SetFault, Step};
 use set_files::{delete_file, length_of};
 use survey::Found;
@@ -27,7 +27,7 @@ fn restore<C: Card>(
 {
     match found {
         Found::None => Ok(()),
-        Found::Spent => delete_file(card, names, Step::R2, DATABASES + d),
+        Found::Spent => delete_file(card, names, Step::R2, journal_of(d)),
         Found::Hot { .. } => play(card, names, d, buffer),
     }
 }

@@ -9,7 +9,7 @@ ghost use Rattle.survey.specs.Tells.{TellsNamed, TellsJournal, TellsJournals};
 use crate::look::{Link, Look};
 use card::Card;
 use journal::{JOURNAL_LIMIT, Verdict};
-use names::{DATABASES, Names, SUPER_JOURNAL};
+use names::{DATABASES, Names, SUPER_JOURNAL, journal_of};
 use refusal::{FOREIGN, Refusal, Step};
 use set_files::{journal_in, judge_numbered};
 use steps::Site;
@@ -60,7 +60,7 @@ fn judge_journal<C: Card>(
     ensures looked { OnlyLooked C.Card.meaning R1 names.now card.old result card.new }
     ensures told { TellsJournal C.Card.meaning names.now card.old d result }
 {
-    let file = DATABASES + d;
+    let file = journal_of(d);
     match judge_numbered(card, names, Step::R1, file, buffer)? {
         None => Ok(Look::Absent),
         Some(Verdict::Spent) => Ok(Look::Spent),

@@ -14,7 +14,7 @@ use crate::presence::all_present;
 use crate::report::Found;
 use card::Card;
 use journal::JOURNAL_LIMIT;
-use names::{DATABASES, Names};
+use names::{DATABASES, Names, journal_of};
 use refusal::Refusal;
 
 /// What each journal was found to be.
@@ -38,7 +38,7 @@ pub fn survey<C: Card>(
     all_present(card, names)?;
     let looks = judge_journals(card, names, buffer)?;
     if let Some(d) = first_linked(&looks, Link::Other) {
-        return Err(Refusal::Foreign(DATABASES + d));
+        return Err(Refusal::Foreign(journal_of(d)));
     }
     if first_linked(&looks, Link::Ours).is_some() {
         check_super(card, names, buffer)?;

@@ -14,6 +14,7 @@ use crate::set::Set;
 use card::{Card, Cause};
 use journal::PAGE;
 use names::Names;
+use page_map::page_place;
 use refusal::{Refusal, SetFault};
 use steps::Site;
 
@@ -32,7 +33,7 @@ fn read_page<C: Card>(
     ensures bytes { ToldBytes (C.Card.meaning.holds card.old (file_of names.now database)) (place_of page) buffer.old result buffer.new }
 {
     let name = names.file(database);
-    Site::reading(database).read(card, name.bytes(), (page - 1) * PAGE as u32, buffer)
+    Site::reading(database).read(card, name.bytes(), page_place(page), buffer)
 }
 
 impl<C> Set<C> {

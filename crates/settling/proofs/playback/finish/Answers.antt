@@ -1,4 +1,8 @@
-use Rattle.std.proofs.Common.{[], ◌∷◌, refl, ◌∙◌}
+use Rattle.std.proofs.Common.{ℕ, [], ◌∷◌, refl, ◌∙◌, subst}
+use Rattle.card.specs.Calls.Op.{delete as deletes}
+use Rattle.names.specs.Files.{file_of}
+use Rattle.refusal.specs.declared.step.Step.TheVariants.{R2}
+use Rattle.steps.specs.Tasks.{Went, task, at}
 use Rattle.steps.proofs.Went.{went_as}
 use Rattle.set_files.proofs.Looks.{passed_up}
 use Rattle.settling.proofs.UpTo.{went_next, went_fail}
@@ -21,4 +25,5 @@ returns g c =
     let name = c.bytes.ensures ∙ c.file-name.ensures in
     let name₂ = c.bytes-2.ensures ∙ c.file-name.ensures in
     went_next _ _ _ _ _ _ _ _ (went_as _ _ _ _ _ _ _ _ _ _ c.new-site.ensures name refl c.in_ok-set_length.ensures)
-    (went_next _ _ _ _ _ _ _ _ (went_as _ _ _ _ _ _ _ _ _ _ c.new-site.ensures name₂ refl c.in_ok-sync.ensures) c.delete_file.ensures)
+    (went_next _ _ _ _ _ _ _ _ (went_as _ _ _ _ _ _ _ _ _ _ c.new-site.ensures name₂ refl c.in_ok-sync.ensures)
+    (subst (λ (k : ℕ). Went g.C.Card.meaning {V = Unit {0}} (task (at R2 k) (file_of c.args.names.now k) deletes ∷ []) c.sync.new.card c.delete_file.result c.delete_file.new.card) c.journal_of.ensures c.delete_file.ensures))

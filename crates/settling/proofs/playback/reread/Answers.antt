@@ -1,14 +1,19 @@
-use Rattle.std.proofs.Common.{◌≡◌}
+use Rattle.std.proofs.Common.{◌≡◌, ℕ, Some, sym, subst}
+use Rattle.journal.specs.Format.{full}
+use Rattle.names.specs.Files.{file_of}
 use Rattle.set_files.proofs.Played.{sound_told}
 use Rattle.settling.proofs.playback.reread.Goals as goal
 
 pub unreachable-requires : goal.unreachable-requires
 unreachable-requires g c =
-    let t = sound_told _ _ _ _ _ c.in_ok-judge_numbered.ensures.told c.requires.hot.1 c.requires.hot.2 in
+    let j = c.requires.hot.0 in
+    let held = subst (λ (k : ℕ). g.C.Card.meaning.holds c.args.card.now (file_of c.args.names.now k) ≡ Some (full j)) (sym c.journal_of.ensures) c.requires.hot.2 in
+    let t = sound_told _ _ _ _ _ c.in_ok-judge_numbered.ensures.told c.requires.hot.1 held in
     c.in_default.not-Sound t.0 (cc (t.1, c.unwrap-verdict.ensures))
 
 pub returns-clause-told : goal.returns-clause-told
 returns-clause-told g c = λ j ok e.
-    let t = sound_told _ _ _ _ j c.in_ok-judge_numbered.ensures.told ok e in
+    let held = subst (λ (k : ℕ). g.C.Card.meaning.holds c.args.card.now (file_of c.args.names.now k) ≡ Some (full j)) (sym c.journal_of.ensures) e in
+    let t = sound_told _ _ _ _ j c.in_ok-judge_numbered.ensures.told ok held in
     let same : t.0 ≡ c.in-Sound.sound = cc (t.1, c.unwrap-verdict.ensures, c.in-Sound.is) in
     rw (← same) (t.2, t.3)

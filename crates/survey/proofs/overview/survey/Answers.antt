@@ -1,4 +1,4 @@
-use Rattle.std.proofs.Common.{◌≡◌, ◌≤◌, List, Some, refl, sym, ◌∙◌, subst, inl, inr, arith}
+use Rattle.std.proofs.Common.{◌≡◌, ◌≤◌, List, Some, sym, ◌∙◌, subst, inl, inr, arith}
 use Rattle.card.specs.Meaning.{Bytes, Name}
 use Rattle.names.specs.Files.{how_many, file_of}
 use Rattle.set_files.specs.Files.{Holds, Present}
@@ -49,7 +49,7 @@ returns-in-Some-clause-told g c =
     let looks = c.in_ok-looks.looks in
     let all = subst (λ (x : Holds). AllLooked x file n looks) (looked_same _ _ _ _ _ first.looked) c.in_ok-looks.ensures.told in
     let here = c.in-Some.ensures in
-    inl (c.in-Some.d, refl, foreign_by files file n looks all c.in-Some.d first.told here.0 here.1 here.2 few)
+    inl (c.in-Some.d, c.journal_of.ensures, foreign_by files file n looks all c.in-Some.d first.told here.0 here.1 here.2 few)
 
 pub check_super-requires : goal.check_super-requires
 check_super-requires g c =
