@@ -1,7 +1,6 @@
 // The set's super-journal, and the files that it lists.
-ghost use Rattle.std.specs.Prelude.{◌≡◌, ℕ, ◌<◌, ◌≤◌, ◌⊎◌, List, length as count_of, take, IfOk, Some, None, MatchOption};
-ghost use Rattle.card.specs.Calls.{part};
-ghost use Rattle.super_journal.specs.Super.{LawfulNames, lying_at};
+ghost use Rattle.std.specs.Prelude.{◌≡◌, ℕ, ◌<◌, List, length as count_of, IfOk, Some, MatchOption};
+ghost use Rattle.super_journal.specs.Written.{texts};
 ghost use Rattle.refusal.specs.declared.step.Step.TheVariants.{R1};
 ghost use Rattle.names.specs.Files.{file_of};
 ghost use Rattle.set_files.specs.Files.{Present};
@@ -9,7 +8,7 @@ ghost use Rattle.set_files.specs.Looked.{Looked, OnlyLooked, ended};
 ghost use Rattle.survey.specs.Tells.{TellsListed, TellsNames, TellsList, TellsSuper};
 
 use card::Card;
-use journal::{JOURNAL_LIMIT, Span};
+use journal::JOURNAL_LIMIT;
 use names::{Names, SUPER_JOURNAL};
 use refusal::{FOREIGN, Refusal, SetFault, Step};
 use set_files::length_of;
@@ -21,16 +20,6 @@ const NO_LIST: Refusal = Refusal::Damaged {
     file: SUPER_JOURNAL,
     record: 0,
 };
-
-/// The name that lies at a place of the bytes.
-fn name_at(bytes: &[u8], span: Span) -> &[u8]
-    requires { 1 ≤ count_of (part bytes.now span.place span.length) }
-    ensures { result.now ≡ part bytes.now span.place span.length }
-{
-    let place = span.place;
-    let length = span.length.min(bytes.len() - place);
-    &bytes[place..place + length]
-}
 
 /// Tests that a listed file is a journal of the set, or absent.
 fn check_listed<C: Card>(card: &mut C, names: &Names, name: &[u8]) -> Result<(), Refusal>
@@ -46,19 +35,13 @@ fn check_listed<C: Card>(card: &mut C, names: &Names, name: &[u8]) -> Result<(),
     }
 }
 
-/// Tests each file whose name lies at one of the places of the bytes.
-fn check_names<C: Card>(
-    card: &mut C,
-    names: &Names,
-    bytes: &[u8],
-    places: &[Span],
-) -> Result<(), Refusal>
-    requires { LawfulNames (lying_at bytes.now places.now) }
+/// Tests each listed file.
+fn check_names<C: Card>(card: &mut C, names: &Names, list: &[&[u8]]) -> Result<(), Refusal>
     ensures looked { OnlyLooked C.Card.meaning R1 names.now card.old result card.new }
-    ensures told { TellsNames C.Card.meaning names.now card.old (lying_at bytes.now places.now) result }
+    ensures told { TellsNames C.Card.meaning names.now card.old (texts list.now) result }
 {
-    for span in places {
-        check_listed(card, names, name_at(bytes, *span))?;
+    for name in list {
+        check_listed(card, names, name)?;
     }
     Ok(())
 }
@@ -69,7 +52,7 @@ fn check_list<C: Card>(card: &mut C, names: &Names, bytes: &[u8]) -> Result<(), 
     ensures told { TellsList C.Card.meaning names.now card.old bytes.now result }
 {
     let list = read_names(bytes).ok_or(NO_LIST)?;
-    check_names(card, names, bytes, list.as_slice())
+    check_names(card, names, list.as_slice())
 }
 
 /// The bytes of the present super-journal, read into the buffer; none if it is longer.
