@@ -3,10 +3,10 @@ ghost use Rattle.std.specs.Prelude.{◌≡◌, ◌+◌, ◌<◌, ◌≤◌, fals
 ghost use Rattle.names.specs.Names.{is_file};
 ghost use Rattle.names.specs.Numbered.{Numbered};
 
-use crate::names::DATABASES;
+use page_map::DATABASES;
 
 /// The number of the super-journal among the files.
-pub const SUPER_JOURNAL: usize = 8;
+pub const SUPER_JOURNAL: usize = 2 * DATABASES;
 
 /// The number of a database's journal among the files. For the crates of this repository: it wants a
 /// database below four.

@@ -5,6 +5,7 @@ use card::NAME_LIMIT;
 use few::Few;
 
 /// A file's name, of up to 32 bytes.
+// `short` is a fact of its own here, since what a contract sees of a `Few` leaves out how many fit.
 #[derive(Clone, Copy)]
 pub struct FileName {
     bytes: Few<u8, NAME_LIMIT>,

@@ -1,6 +1,6 @@
 use Rattle.std.proofs.Common.{[], arith}
 use Rattle.names.proofs.Texts.{short_name}
-use Rattle.names.proofs.names.checks.copied.Goals as goal
+use Rattle.names.proofs.names.NameList.copied.Goals as goal
 
 pub from_slice-requires : goal.from_slice-requires
 from_slice-requires c =
