@@ -1,13 +1,25 @@
 -- What recovery does with the journals that it found, in order: each hot one is played back into its
 -- database and then deleted, each spent one is deleted, and the super-journal goes last.
-use Rattle.std.specs.Prelude.{ℕ, zero, suc, ◌+◌, ◌-◌, ◌*◌, List, [], ◌∷◌, ◌++◌, length, Some, None, Option}
-use Rattle.card.specs.Meaning.{Bytes, Name}
+use Rattle.std.specs.Prelude.{◌≡◌, ℕ, zero, suc, ◌+◌, ◌-◌, ◌*◌, List, [], ◌∷◌, ◌++◌, length, Some, None, Option}
+use Rattle.card.specs.Meaning.{Meaning, Bytes, Name}
 use Rattle.card.specs.Calls.{length_of, write, set_length, sync, delete}
-use Rattle.journal.specs.Format.{Journal, full, record_of}
+use Rattle.journal.specs.Format.{Journal, LawfulJournal, full, record_of}
 use Rattle.journal.specs.OnCard.{judge_acts}
 use Rattle.refusal.specs.declared.step.Step.TheVariants.{R2, R3}
 use Rattle.steps.specs.Tasks.{Task, task, tasks, at, at_record}
-use Rattle.survey.specs.Seen.{Seen, none, spent, hot}
+use Rattle.names.specs.declared.names.Names.{Names}
+use Rattle.names.specs.Files.{how_many, file_of, journal_file}
+use Rattle.survey.specs.declared.report.Found.{Found}
+use Rattle.survey.specs.Seen.{Seen, none, spent, hot, AllSeen}
+
+module _ {C : Type 0} (m : Meaning C) (names : Names) (c : C) where
+  -- what the journals of a set are, and as they are reported
+  abbrev pub SeenOf : List Found → (ℕ → Seen) → Type 0
+  SeenOf found seen = AllSeen (m.holds c) (file_of names) (how_many names) found seen
+
+  -- the journal of the database d is this one, whole
+  abbrev pub WholeOf : ℕ → Journal → Type 0
+  WholeOf d j = LawfulJournal j × (m.holds c (journal_file names d) ≡ Some (full j))
 
 -- the lists of the indices below n, in order
 unfoldable pub up_to : (ℕ → List Task) → ℕ → List Task

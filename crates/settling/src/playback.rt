@@ -1,14 +1,17 @@
 // Journals played back into their databases, and deleted.
+//
+// A database goes by its number, as in the calls and in the faults. That it is below four is what
+// `journal_of` wants; a type for such numbers would be taken apart again at each site and each name.
 ghost use Rattle.std.specs.Prelude.{◌≡◌, ◌+◌, ◌<◌, ◌≤◌, [], ◌∷◌, length as count_of, IfOk, Some};
 ghost use Rattle.card.specs.Calls.{overwrite};
 ghost use Rattle.refusal.specs.declared.step.Step.TheVariants.{R2};
-ghost use Rattle.journal.specs.Format.{Journal, LawfulJournal, full};
+ghost use Rattle.journal.specs.Format.{Journal, full};
 ghost use Rattle.journal.specs.Judged.{Parts};
 ghost use Rattle.journal.specs.OnCard.{judge_acts};
 ghost use Rattle.journal.specs.Read.{Of};
 ghost use Rattle.steps.specs.Tasks.{Went, tasks, at};
-ghost use Rattle.names.specs.Files.{file_of};
-ghost use Rattle.settling.specs.Settled.{record_task, write_tasks, finish_tasks, hot_tasks};
+ghost use Rattle.names.specs.Files.{file_of, journal_file};
+ghost use Rattle.settling.specs.Settled.{WholeOf, record_task, write_tasks, finish_tasks, hot_tasks};
 
 use card::Card;
 use journal::{JOURNAL_LIMIT, PAGE, Sound, Verdict};
@@ -19,6 +22,8 @@ use set_files::{delete_file, journal_in, judge_numbered};
 use steps::Site;
 
 /// Writes the page of the record of an index, from 0, back into its database.
+// Bytes and parts side by side: the contracts speak of the journal that both are of, and a struct of the
+// two could know only that there is one, since a ghost field is a fact and no value.
 fn write_record<C: Card>(
     card: &mut C,
     names: &Names,
@@ -41,6 +46,8 @@ fn write_record<C: Card>(
 }
 
 /// Writes the pages of all records of a journal back into its database.
+// By index: the journal's lookups take it and a fault tells it, so an iterator over records would be
+// counted again.
 fn write_records<C: Card>(
     card: &mut C,
     names: &Names,
@@ -78,9 +85,9 @@ fn reread<C: Card>(
     buffer: &mut [u8; JOURNAL_LIMIT],
 ) -> Result<Sound, SetFault>
     requires few { d < 4 }
-    requires hot { (j : Journal) × LawfulJournal j × (C.Card.meaning.holds card.old (file_of names.now (4 + d)) ≡ Some (full j)) }
-    ensures went { (j : Journal) → LawfulJournal j → C.Card.meaning.holds card.old (file_of names.now (4 + d)) ≡ Some (full j) → Went C.Card.meaning (tasks (at R2 (4 + d)) (judge_acts (file_of names.now (4 + d)) (Some (full j)))) card.old result card.new }
-    ensures told { IfOk result (λ s. (j : Journal) → LawfulJournal j → C.Card.meaning.holds card.old (file_of names.now (4 + d)) ≡ Some (full j) → Parts s j × (buffer.new ≡ overwrite buffer.old 0 (full j))) }
+    requires hot { (j : Journal) × WholeOf C.Card.meaning names.now card.old d j }
+    ensures went { (j : Journal) → WholeOf C.Card.meaning names.now card.old d j → Went C.Card.meaning (tasks (at R2 (4 + d)) (judge_acts (journal_file names.now d) (Some (full j)))) card.old result card.new }
+    ensures told { IfOk result (λ s. (j : Journal) → WholeOf C.Card.meaning names.now card.old d j → Parts s j × (buffer.new ≡ overwrite buffer.old 0 (full j))) }
 {
     let verdict = judge_numbered(card, names, Step::R2, journal_of(d), buffer)?.unwrap();
     let Verdict::Sound(sound) = verdict else {
@@ -97,8 +104,8 @@ pub(crate) fn play<C: Card>(
     buffer: &mut [u8; JOURNAL_LIMIT],
 ) -> Result<(), SetFault>
     requires few { d < 4 }
-    requires hot { (j : Journal) × LawfulJournal j × (C.Card.meaning.holds card.old (file_of names.now (4 + d)) ≡ Some (full j)) }
-    ensures { (j : Journal) → LawfulJournal j → C.Card.meaning.holds card.old (file_of names.now (4 + d)) ≡ Some (full j) → Went C.Card.meaning (hot_tasks (file_of names.now) d j) card.old result card.new }
+    requires hot { (j : Journal) × WholeOf C.Card.meaning names.now card.old d j }
+    ensures { (j : Journal) → WholeOf C.Card.meaning names.now card.old d j → Went C.Card.meaning (hot_tasks (file_of names.now) d j) card.old result card.new }
 {
     let sound = reread(card, names, d, buffer)?;
     write_records(card, names, d, journal_in(buffer, &sound), &sound)?;

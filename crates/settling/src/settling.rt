@@ -1,9 +1,9 @@
 // What is done with the journals that were found.
 ghost use Rattle.std.specs.Prelude.{ℕ, ◌<◌};
 ghost use Rattle.steps.specs.Tasks.{Went};
-ghost use Rattle.names.specs.Files.{how_many, file_of};
-ghost use Rattle.survey.specs.Seen.{Seen, Stands, FoundOf, AllSeen};
-ghost use Rattle.settling.specs.Settled.{restore_tasks, all_tasks, super_tasks, settle_tasks};
+ghost use Rattle.names.specs.Files.{how_many, file_of, super_file};
+ghost use Rattle.survey.specs.Seen.{Seen, Stands, FoundOf};
+ghost use Rattle.settling.specs.Settled.{SeenOf, restore_tasks, all_tasks, super_tasks, settle_tasks};
 
 use crate::playback::play;
 use card::Card;
@@ -34,7 +34,7 @@ fn restore<C: Card>(
 
 /// Deletes the super-journal, if it is present.
 fn delete_super<C: Card>(card: &mut C, names: &Names) -> Result<(), SetFault>
-    ensures { Went C.Card.meaning (super_tasks (file_of names.now) (C.Card.meaning.holds card.old (file_of names.now 8))) card.old result card.new }
+    ensures { Went C.Card.meaning (super_tasks (file_of names.now) (C.Card.meaning.holds card.old (super_file names.now))) card.old result card.new }
 {
     match length_of(card, names, Step::R3, SUPER_JOURNAL)? {
         None => Ok(()),
@@ -49,8 +49,8 @@ fn restore_all<C: Card>(
     found: &[Found; DATABASES],
     buffer: &mut [u8; JOURNAL_LIMIT],
 ) -> Result<(), SetFault>
-    requires { (seen : ℕ → Seen) × AllSeen (C.Card.meaning.holds card.old) (file_of names.now) (how_many names.now) found.now seen }
-    ensures { (seen : ℕ → Seen) → AllSeen (C.Card.meaning.holds card.old) (file_of names.now) (how_many names.now) found.now seen → Went C.Card.meaning (all_tasks (file_of names.now) (how_many names.now) seen) card.old result card.new }
+    requires { (seen : ℕ → Seen) × SeenOf C.Card.meaning names.now card.old found.now seen }
+    ensures { (seen : ℕ → Seen) → SeenOf C.Card.meaning names.now card.old found.now seen → Went C.Card.meaning (all_tasks (file_of names.now) (how_many names.now) seen) card.old result card.new }
 {
     for (d, found) in found[0..names.count()].iter().enumerate() {
         restore(card, names, d, *found, buffer)?;
@@ -67,8 +67,8 @@ pub fn settle<C: Card>(
     found: &[Found; DATABASES],
     buffer: &mut [u8; JOURNAL_LIMIT],
 ) -> Result<(), SetFault>
-    requires { (seen : ℕ → Seen) × AllSeen (C.Card.meaning.holds card.old) (file_of names.now) (how_many names.now) found.now seen }
-    ensures { (seen : ℕ → Seen) → AllSeen (C.Card.meaning.holds card.old) (file_of names.now) (how_many names.now) found.now seen → Went C.Card.meaning (settle_tasks (file_of names.now) (how_many names.now) seen (C.Card.meaning.holds card.old (file_of names.now 8))) card.old result card.new }
+    requires { (seen : ℕ → Seen) × SeenOf C.Card.meaning names.now card.old found.now seen }
+    ensures { (seen : ℕ → Seen) → SeenOf C.Card.meaning names.now card.old found.now seen → Went C.Card.meaning (settle_tasks (file_of names.now) (how_many names.now) seen (C.Card.meaning.holds card.old (super_file names.now))) card.old result card.new }
 {
     restore_all(card, names, found, buffer)?;
     delete_super(card, names)

@@ -2,7 +2,7 @@
 use Rattle.std.specs.Prelude.{◌≡◌, ℕ, ◌+◌, ◌<◌, ◌⊎◌, List, None, Some, Result}
 use Rattle.card.specs.Meaning.{Meaning, Bytes, Name}
 use Rattle.names.specs.declared.names.Names.{Names}
-use Rattle.names.specs.Files.{how_many, file_of}
+use Rattle.names.specs.Files.{how_many, file_of, super_file}
 use Rattle.refusal.specs.declared.refusals.Refusal.{Refusal}
 use Rattle.set_files.specs.Files.{Holds, Present}
 use Rattle.set_files.specs.Looked.{Told, never, never₂}
@@ -58,6 +58,6 @@ module _ {C : Type 0} (m : Meaning C) (names : Names) (c : C) where
   -- the same of the set's super-journal
   abbrev pub TellsSuper : Result (Unit {0}) Refusal → Type 0
   TellsSuper r =
-      Told r (λ _. (b : Bytes) × (files (file 8) ≡ Some b) × ((ns : List Name) × Listed files file n b ns))
-      (λ f k. (f ≡ 8) × (k ≡ 0) × ((b : Bytes) × (files (file 8) ≡ Some b) × NoNames b))
-      (λ f. (f ≡ 9) × ((b : Bytes) × (files (file 8) ≡ Some b) × ((ns : List Name) × Strays files file n b ns))) never
+      Told r (λ _. (b : Bytes) × (files (super_file names) ≡ Some b) × ((ns : List Name) × Listed files file n b ns))
+      (λ f k. (f ≡ 8) × (k ≡ 0) × ((b : Bytes) × (files (super_file names) ≡ Some b) × NoNames b))
+      (λ f. (f ≡ 9) × ((b : Bytes) × (files (super_file names) ≡ Some b) × ((ns : List Name) × Strays files file n b ns))) never

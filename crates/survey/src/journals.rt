@@ -50,6 +50,7 @@ fn look_at_super<C: Card>(
 }
 
 /// Judges the journal of a database.
+// That the number is below four is what `journal_of` wants; here and in `settling` databases go by number.
 fn judge_journal<C: Card>(
     card: &mut C,
     names: &Names,

@@ -2,7 +2,7 @@
 ghost use Rattle.std.specs.Prelude.{◌≡◌, ℕ, ◌<◌, List, length as count_of, IfOk, Some, MatchOption};
 ghost use Rattle.super_journal.specs.Written.{texts};
 ghost use Rattle.refusal.specs.declared.step.Step.TheVariants.{R1};
-ghost use Rattle.names.specs.Files.{file_of};
+ghost use Rattle.names.specs.Files.{file_of, super_file};
 ghost use Rattle.set_files.specs.Files.{Present};
 ghost use Rattle.set_files.specs.Looked.{Looked, OnlyLooked, ended};
 ghost use Rattle.survey.specs.Tells.{TellsListed, TellsNames, TellsList, TellsSuper};
@@ -61,9 +61,9 @@ fn read_super<'a, C: Card>(
     names: &Names,
     buffer: &'a mut [u8; JOURNAL_LIMIT],
 ) -> Result<Option<&'a [u8]>, SetFault>
-    requires { Present (C.Card.meaning.holds card.old (file_of names.now 8)) }
+    requires { Present (C.Card.meaning.holds card.old (super_file names.now)) }
     ensures looked { Looked C.Card.meaning R1 (file_of names.now) card.old (ended result) card.new }
-    ensures told { IfOk result (λ o. (b : List ℕ) × (C.Card.meaning.holds card.old (file_of names.now 8) ≡ Some b) × MatchOption o (17724 < count_of b) (λ bytes. bytes.now ≡ b)) }
+    ensures told { IfOk result (λ o. (b : List ℕ) × (C.Card.meaning.holds card.old (super_file names.now) ≡ Some b) × MatchOption o (17724 < count_of b) (λ bytes. bytes.now ≡ b)) }
 {
     let length = length_of(card, names, Step::R1, SUPER_JOURNAL)?.unwrap() as usize;
     if length > JOURNAL_LIMIT {
@@ -81,7 +81,7 @@ pub(crate) fn check_super<C: Card>(
     names: &Names,
     buffer: &mut [u8; JOURNAL_LIMIT],
 ) -> Result<(), Refusal>
-    requires { Present (C.Card.meaning.holds card.old (file_of names.now 8)) }
+    requires { Present (C.Card.meaning.holds card.old (super_file names.now)) }
     ensures looked { OnlyLooked C.Card.meaning R1 names.now card.old result card.new }
     ensures told { TellsSuper C.Card.meaning names.now card.old result }
 {

@@ -9,6 +9,7 @@ use refusal::{Refusal, Step};
 use set_files::length_of;
 
 /// Tests that each database is present, in order.
+// Over numbers: a file is asked for by its number, and the refusal tells it.
 pub(crate) fn all_present<C: Card>(card: &mut C, names: &Names) -> Result<(), Refusal>
     ensures looked { OnlyLooked C.Card.meaning R1 names.now card.old result card.new }
     ensures told { TellsPresence C.Card.meaning names.now card.old result }
