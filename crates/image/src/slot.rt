@@ -28,33 +28,22 @@ pub fn is_named(slot: &[u8], name: &[u8]) -> bool
     ensures { result ≡ named name.now slot.now }
 {
     let n = name.len();
-    is_name(name) && slot.len() >= HEAD && slot[NAME_LENGTH] as usize == n && slot[0..n] == name[..]
+    is_name(name)
+        && slot.len() >= HEAD
+        && usize::from(slot[NAME_LENGTH]) == n
+        && slot[0..n] == name[..]
 }
 
-/// How many bytes the file in the slot has. For the crates of this repository: it wants a slot with its head.
-pub fn file_length(slot: &[u8]) -> usize
+/// The bytes of the file in the slot. For the crates of this repository: it wants a slot with its head.
+pub fn content(slot: &[u8]) -> &[u8]
     requires { 37 ≤ count slot.now }
-    ensures is { result ≡ count (content slot.now) }
-    ensures small { result < 2 ^ 32 }
+    ensures is { result.now ≡ content slot.now }
+    ensures small { count result.now < 2 ^ 32 }
 {
-    let bytes = [
-        slot[FILE_LENGTH],
-        slot[FILE_LENGTH + 1],
-        slot[FILE_LENGTH + 2],
-        slot[FILE_LENGTH + 3],
-    ];
-    let stored = u32::from_be_bytes(bytes) as usize;
-    stored.min(slot.len() - HEAD)
-}
-
-/// Fills the buffer with the file's bytes from a place on.
-pub fn copy_out(slot: &[u8], place: usize, buffer: &mut [u8])
-    requires head { 37 ≤ count slot.now }
-    requires inside { place + count buffer.old ≤ count (content slot.now) }
-    ensures { buffer.new ≡ part (content slot.now) place (count buffer.old) }
-{
-    let from = HEAD + place;
-    buffer.copy_from_slice(&slot[from..from + buffer.len()]);
+    let length = slot[FILE_LENGTH..].first_chunk::<4>().unwrap();
+    let stored = u32::from_be_bytes(*length) as usize;
+    let room = &slot[HEAD..];
+    &room[..stored.min(room.len())]
 }
 
 /// Writes down how many bytes the file has. For the crates of this repository: it wants a slot with its head.
@@ -78,7 +67,7 @@ pub fn put_bytes(slot: &mut [u8], place: usize, bytes: &[u8])
     ensures content { content slot.new ≡ overwritten (content slot.old) place bytes.now }
     ensures name { take 33 slot.new ≡ take 33 slot.old }
 {
-    let old = file_length(slot);
+    let old = content(slot).len();
     let at = HEAD + place;
     slot[at..at + bytes.len()].copy_from_slice(bytes);
     put_length(slot, old.max(place + bytes.len()));
@@ -91,7 +80,7 @@ pub fn resize(slot: &mut [u8], length: usize)
     ensures content { content slot.new ≡ resized (content slot.old) length }
     ensures name { take 33 slot.new ≡ take 33 slot.old }
 {
-    let kept = file_length(slot).min(length);
+    let kept = content(slot).len().min(length);
     slot[HEAD + kept..HEAD + length].fill(0);
     put_length(slot, length);
 }

@@ -1,35 +1,32 @@
-use Rattle.std.proofs.Common.{◌≡◌, ℕ, ◌<◌, max, length, take, sym, ◌∙◌, subst, ap₂, arith, length-take}
-use Rattle.std.proofs.lemmas.List.{ext_get_or, get_or-take}
-use Rattle.card.specs.Numbers.{number_at}
+use Rattle.std.proofs.Common.{◌≡◌, ℕ, max, length, ap, ◌∙◌, sym, subst, ap₂, arith}
+use Rattle.card.specs.Meaning.{Bytes}
 use Rattle.image.specs.Layout.{content}
-use Rattle.halves.specs.Halves.{MixedBelow}
 use Rattle.image.proofs.Bytes.{content_within}
-use Rattle.halves.proofs.Mixing.{content_mixed}
+use Rattle.halves.specs.Halves.{MixedBelow, mixed_byte}
+use Rattle.halves.proofs.Mixing.{mixed_none, mixed_more, content_mixed, name_mixed}
 use Rattle.halves.proofs.loss.mix.Goals as goal
 
-pub mix_bytes-requires : goal.mix_bytes-requires
-mix_bytes-requires c =
-    let a = content_within c.args.current.now c.requires.head in
-    let s = content_within c.args.synced.now (omega arith) in
-    record { current = omega (arith, c.file_length-length.ensures.is); synced = omega (arith, c.file_length-other.ensures.is); same = c.requires.same }
+pub loop-i-init : goal.loop-i-init
+loop-i-init c = mixed_none c.args.current.now c.args.synced.now
+
+pub bounds-current-i : goal.bounds-current-i
+bounds-current-i c =
+    omega (arith, ap length c.content-file.ensures.is, ap length c.content.ensures.is, content_within c.args.current.now c.requires.head, content_within c.args.synced.now (omega arith))
+
+pub loop-i-preserved : goal.loop-i-preserved
+loop-i-preserved c =
+    mixed_more c.args.current.now c.args.synced.now c.loop-i.i c.loop-i.current c.loop-i.invariant c.mixed_byte.result
+    (omega (arith, ap length c.content-file.ensures.is, ap length c.content.ensures.is, content_within c.args.current.now c.requires.head, content_within c.args.synced.now (omega arith)))
+    (c.mixed_byte.ensures ∙ ap₂ (λ (a s : Bytes). mixed_byte a s c.loop-i.i) c.content-in-loop-i.ensures.is c.content-file.ensures.is)
 
 pub returns : goal.returns
 returns c =
     let current = c.args.current.now in
     let synced = c.args.synced.now in
-    let mid = c.mix_bytes.new.current in
-    let new = c.put_length.new.slot in
-    let long : length mid ≡ length current = c.mix_bytes.auto.current in
-    let mix : MixedBelow current synced (length (content current)) (length (content synced)) (max (length (content current)) (length (content synced))) mid =
-    subst (λ (s : ℕ). MixedBelow current synced (length (content current)) s (max (length (content current)) s) mid) c.file_length-other.ensures.is
-    (subst (λ (a : ℕ). MixedBelow current synced a c.file_length-other.result (max a c.file_length-other.result) mid) c.file_length-length.ensures.is c.mix_bytes.ensures) in
-    let number : number_at new 33 ≡ max (length (content current)) (length (content synced)) =
-    c.put_length.ensures.number ∙ c.max.ensures ∙ ap₂ max c.file_length-length.ensures.is c.file_length-other.ensures.is in
-    let size : length (take 33 mid) ≡ length (take 33 current) = simp length-take (omega (arith, long)) in
+    let length-is : c.max-length.result ≡ max (length (content current)) (length (content synced)) = omega (arith, ap length c.content-file.ensures.is, ap length c.content.ensures.is) in
+    let all : c.loop-i.i ≡ max (length (content current)) (length (content synced)) = omega (arith, length-is) in
+    let mix : MixedBelow current synced (max (length (content current)) (length (content synced))) c.loop-i.current = subst (λ (k : ℕ). MixedBelow current synced k c.loop-i.current) all c.loop-i.invariant in
     record {
-      content = content_mixed current synced mid new c.requires.head c.requires.same long mix c.put_length.ensures.after number;
-      name =
-          c.put_length.ensures.before
-          ∙ ext_get_or 0 (take 33 mid) (take 33 current) size
-          (λ i lt. let below : i < 33 = omega (arith, length-take 33 mid) in get_or-take 33 mid i 0 below ∙ mix.head i (omega arith) ∙ sym (get_or-take 33 current i 0 below));
+      content = content_mixed current synced c.loop-i.current c.put_length.new.slot c.requires.head c.requires.same mix c.put_length.ensures.after (c.put_length.ensures.number ∙ length-is);
+      name = c.put_length.ensures.before ∙ name_mixed current synced _ c.loop-i.current mix;
     }
