@@ -1,6 +1,6 @@
 -- An image in two halves of equal size: what is surely kept, and what the files hold now.
 -- A file lies in the same slot of both. Names are looked up in the current half.
-use Rattle.std.specs.Prelude.{◌≡◌, ℕ, ◌+◌, ◌%◌, ◌<◌, ◌≤◌, max, cond, [], map, length, take, Some, None, Option, Result, ◌==◌, ◌≢◌, nat_lt, slice_index}
+use Rattle.std.specs.Prelude.{◌≡◌, ℕ, ◌%◌, ◌<◌, ◌≤◌, max, cond, [], map, length, take, Some, None, Option, Result, ◌==◌, ◌≢◌, slice_index}
 use Rattle.std.specs.List.{range_with_len}
 use Rattle.card.specs.declared.fault.Cause.{Cause}
 use Rattle.card.specs.Meaning.{Bytes, Name}
@@ -87,9 +87,7 @@ pub record KeptBelow (kept : Kept) (current synced : Bytes) (k : ℕ) (current' 
   pub rest : (j : ℕ) → k ≤ j → j < slot_count → slot current' j ≡ slot current j
   pub rest_synced : (j : ℕ) → k ≤ j → j < slot_count → slot synced' j ≡ slot synced j
 
--- the first k bytes of a slot's file are mixed, and the rest of the slot is as it was
+-- the first k bytes of a file are mixed, and the rest is as it was
 pub record MixedBelow (current synced : Bytes) (k : ℕ) (current' : Bytes) : Type 0 where
-  pub long : length current' ≡ length current
-  pub head : (i : ℕ) → i < 37 → slice_index current' i ≡ slice_index current i
-  pub bytes : (i : ℕ) → i < k → slice_index current' (37 + i) ≡ mixed_byte (content current) (content synced) i
-  pub rest : (i : ℕ) → k ≤ i → slice_index current' (37 + i) ≡ slice_index current (37 + i)
+  pub bytes : (i : ℕ) → i < k → slice_index current' i ≡ mixed_byte current synced i
+  pub rest : (i : ℕ) → k ≤ i → slice_index current' i ≡ slice_index current i

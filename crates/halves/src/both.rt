@@ -153,7 +153,7 @@ impl Halves<'_> {
         if self.current.len() / SLOTS < HEAD {
             return;
         }
-        // By number: a file has the same one in both halves, and of chunks that were lent out no half knows what they hold.
+        // By number, not by chunks of both halves: what a half holds once its chunks were lent out is not known (tried).
         for k in 0..SLOTS {
             self.keep_slot(k, choice);
         }

@@ -1,18 +1,12 @@
 // What a power failure keeps of the file in a slot of an image in two halves.
 ghost use Rattle.std.specs.Prelude.{◌≡◌, ℕ, ◌+◌, ◌-◌, ◌*◌, ◌/◌, ◌%◌, ◌^◌, ◌<◌, ◌≤◌, max, length as count, take, ◌≢◌, nat_lt, slice_index};
 ghost use Rattle.image.specs.Layout.{content};
-ghost use Rattle.halves.specs.Halves.{mixed, mixed_byte, kept_content};
+ghost use Rattle.halves.specs.Halves.{mixed, kept_content};
 
 use crate::kept::Kept;
-use image::{FILE_LENGTH, HEAD, content, put_length};
+use image::{FILE_LENGTH, HEAD, content, resize};
 
-/// The byte of the current file at even places, of the synced one at odd places.
-fn mixed_byte(current: &[u8], synced: &[u8], place: usize) -> u8
-    ensures { result ≡ mixed_byte current.now synced.now place }
-{
-    let file = if place % 2 == 0 { current } else { synced };
-    file.get(place).copied().unwrap_or(0)
-}
+// `head` and `same` are asked twice, and no struct has the two slots: its methods would take both out again, as in `image`.
 
 /// Mixes the synced file into the current one, at the longer length.
 fn mix(current: &mut [u8], synced: &[u8])
@@ -23,11 +17,12 @@ fn mix(current: &mut [u8], synced: &[u8])
 {
     let file = content(synced);
     let length = file.len().max(content(current).len());
-    // By index: of bytes that `iter_mut` has lent out the slot knows no more than how many they are.
-    for i in 0..length {
-        current[HEAD + i] = mixed_byte(content(current), file, i);
+    resize(current, length);
+    for (place, byte) in current[HEAD..HEAD + length].iter_mut().enumerate() {
+        if place % 2 == 1 {
+            *byte = file.get(place).copied().unwrap_or(0);
+        }
     }
-    put_length(current, length);
 }
 
 /// Gives the current slot what is kept of its file.

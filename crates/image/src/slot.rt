@@ -16,6 +16,9 @@ const NAME_LENGTH: usize = 32;
 /// Where the file's length stands.
 pub const FILE_LENGTH: usize = 33;
 
+// `head` is asked by each function below. Tried as a ghost field of a struct: each method has to take the bytes out of it
+// again, its clauses say `self.exit.0.now` for `slot.new`, and for reading there has to be a second struct.
+
 /// Whether the slot is free for a file.
 pub fn is_free(slot: &[u8]) -> bool
     ensures { result ≡ free slot.now }
@@ -46,8 +49,8 @@ pub fn content(slot: &[u8]) -> &[u8]
     &room[..stored.min(room.len())]
 }
 
-/// Writes down how many bytes the file has. For the crates of this repository: it wants a slot with its head.
-pub fn put_length(slot: &mut [u8], length: usize)
+/// Writes down how many bytes the file has.
+fn put_length(slot: &mut [u8], length: usize)
     requires head { 37 ≤ count slot.old }
     requires small { length < 2 ^ 32 }
     ensures before { take 33 slot.new ≡ take 33 slot.old }
@@ -73,7 +76,7 @@ pub fn put_bytes(slot: &mut [u8], place: usize, bytes: &[u8])
     put_length(slot, old.max(place + bytes.len()));
 }
 
-/// Cuts the file, or fills it with zeros, to a length.
+/// Cuts the file, or fills it with zeros, to a length. For the crates of this repository: it wants a slot with its head.
 pub fn resize(slot: &mut [u8], length: usize)
     requires fits { 37 + length ≤ count slot.old }
     requires small { length < 2 ^ 32 }

@@ -1,7 +1,6 @@
-use Rattle.std.proofs.Common.{rules, ◌≡◌, ℕ, ◌<◌, ◌≤◌, length, Some, None, Option, MatchOption, sym, refl, ap, ◌∙◌, subst}
+use Rattle.std.proofs.Common.{rules, ◌≡◌, ◌<◌, ◌≤◌, length, Some, sym, subst}
 use Rattle.card.specs.Meaning.{Bytes}
-use Rattle.card.specs.Calls.{length_of, length_told}
-use Rattle.image.specs.Layout.{content, slot, FirstSlot, named, held}
+use Rattle.image.specs.Layout.{slot, FirstSlot, named}
 use Rattle.image.proofs.Named.{named_parts}
 use Rattle.image.proofs.Files.{told_length}
 use Rattle.image.proofs.slots.length.Goals as goal

@@ -1,5 +1,4 @@
-use Rattle.std.proofs.Common.{length, ap, ◌∙◌}
-use Rattle.image.proofs.Slices.{slot_part, length_slot}
+use Rattle.image.proofs.Slices.{slot_part}
 use Rattle.image.proofs.slots.slot_at.Goals as goal
 
 pub returns-clause-is : goal.returns-clause-is
