@@ -1,12 +1,12 @@
 -- Slots given what is kept of their files, one after the other, and what both halves then hold.
-use Rattle.std.proofs.Common.{◌≡◌, ℕ, zero, suc, ◌+◌, ◌*◌, ◌/◌, ◌<◌, Bool, true, false, cond, ◌⊎◌, length, take, Some, None, Option, sym, refl, ap, ◌∙◌, ap₂, inl, inr, ⊎_elim, arith, below_more}
+use Rattle.std.proofs.Common.{◌≡◌, ℕ, zero, suc, ◌+◌, ◌*◌, ◌/◌, ◌<◌, Bool, true, false, cond, ◌⊎◌, length, take, Some, None, Option, sym, refl, ap, ◌∙◌, subst, ap₂, inl, inr, ⊎_elim, arith, below_more}
 use Rattle.std.proofs.lemmas.Bool.{cases_Bool}
 use Rattle.card.specs.Meaning.{Bytes, Name}
 use Rattle.card.specs.Calls.{overwrite}
 use Rattle.card.proofs.Every.{some_none}
 use Rattle.halves.specs.declared.kept.Kept.{Kept}
 use Rattle.image.specs.Layout.{named, content, slot, slot_size, held, first_of, or_else, free_slots}
-use Rattle.halves.specs.Halves.{backed, kept_content, kept_of, KeptAs, KeptBelow}
+use Rattle.halves.specs.Halves.{backed, kept_content, kept_of, KeptAs, KeptBelow, SlotKept, Settled}
 use Rattle.image.proofs.Named.{named_front, free_front, named_parts}
 use Rattle.image.proofs.First.{first_same, first_none, free_same}
 use Rattle.image.proofs.Slices.{slot_put, slot_other, put_length, length_slot}
@@ -25,44 +25,51 @@ module _ (kept : Kept) (current synced : Bytes) where
       }
 
   -- one slot more
-  pub kept_more :
-      (k : ℕ) (current' synced' new current'' synced'' : Bytes) → k < 16 → KeptBelow kept current synced k current' synced' → length current ≡ length synced →
-      length new ≡ slot_size current' → take 33 new ≡ take 33 (slot current' k) → content new ≡ kept_content kept (content (slot current' k)) (content (slot synced' k)) →
-      current'' ≡ overwrite current' (k * slot_size current') new → synced'' ≡ overwrite synced' (k * slot_size synced') new → KeptBelow kept current synced (k + 1) current'' synced''
-  kept_more k current' synced' new current'' synced'' in_image so_far same whole name bytes put put-synced =
+  pub kept_more : (k : ℕ) (current' synced' current'' synced'' : Bytes) → k < 16 → KeptBelow kept current synced k current' synced' → SlotKept kept k current' synced' current'' synced'' → KeptBelow kept current synced (k + 1) current'' synced''
+  kept_more k current' synced' current'' synced'' in_image so_far done =
       record {
-        long = ap length put ∙ put_length current' k new in_image whole ∙ so_far.long;
-        long_synced = ap length put-synced ∙ put_length synced' k new in_image whole_synced ∙ so_far.long_synced;
-        name = below_more _ k (λ j lt. ap (take 33) (there j (omega arith) (λ e. omega arith)) ∙ so_far.name j lt) (ap (take 33) here ∙ name ∙ ap (take 33) was);
+        long = done.long ∙ so_far.long;
+        long_synced = done.settled.long ∙ so_far.long_synced;
+        name = below_more _ k (λ j lt. ap (take 33) (done.others j (omega arith) (λ e. omega arith)) ∙ so_far.name j lt) (done.name ∙ ap (take 33) was);
         bytes =
-            below_more _ k (λ j lt. ap content (there j (omega arith) (λ e. omega arith)) ∙ so_far.bytes j lt)
-            (ap content here ∙ bytes ∙ ap₂ (λ (a b : Bytes). kept_content kept (content a) (content b)) was was_synced);
+            below_more _ k (λ j lt. ap content (done.others j (omega arith) (λ e. omega arith)) ∙ so_far.bytes j lt)
+            (done.bytes ∙ ap₂ (λ (a b : Bytes). kept_content kept (content a) (content b)) was was_synced);
         alike =
-            below_more _ k (λ j lt. there_synced j (omega arith) (λ e. omega arith) ∙ so_far.alike j lt ∙ sym (there j (omega arith) (λ e. omega arith))) (here_synced ∙ sym here);
-        rest = λ j le lt. there j lt (λ e. omega arith) ∙ so_far.rest j (omega arith) lt;
-        rest_synced = λ j le lt. there_synced j lt (λ e. omega arith) ∙ so_far.rest_synced j (omega arith) lt;
+            below_more _ k (λ j lt. done.settled.there j (omega arith) (λ e. omega arith) ∙ so_far.alike j lt ∙ sym (done.others j (omega arith) (λ e. omega arith))) done.settled.here;
+        rest = λ j le lt. done.others j lt (λ e. omega arith) ∙ so_far.rest j (omega arith) lt;
+        rest_synced = λ j le lt. done.settled.there j lt (λ e. omega arith) ∙ so_far.rest_synced j (omega arith) lt;
       }
     where
-      whole_synced : length new ≡ slot_size synced'
-      whole_synced = whole ∙ ap (λ (n : ℕ). n / 16) (so_far.long ∙ same ∙ sym so_far.long_synced)
-
-      here : slot current'' k ≡ new
-      here = ap (λ (i : Bytes). slot i k) put ∙ slot_put current' k new in_image whole
-
-      here_synced : slot synced'' k ≡ new
-      here_synced = ap (λ (i : Bytes). slot i k) put-synced ∙ slot_put synced' k new in_image whole_synced
-
-      there : (j : ℕ) → j < 16 → (j ≡ k → ⊥) → slot current'' j ≡ slot current' j
-      there j lt ne = ap (λ (i : Bytes). slot i j) put ∙ slot_other current' k new in_image whole j lt ne
-
-      there_synced : (j : ℕ) → j < 16 → (j ≡ k → ⊥) → slot synced'' j ≡ slot synced' j
-      there_synced j lt ne = ap (λ (i : Bytes). slot i j) put-synced ∙ slot_other synced' k new in_image whole_synced j lt ne
-
       was : slot current' k ≡ slot current k
       was = so_far.rest k (omega arith) in_image
 
       was_synced : slot synced' k ≡ slot synced k
       was_synced = so_far.rest_synced k (omega arith) in_image
+
+-- a slot of the synced half is written over by the current one's
+pub settled_put : (current synced synced' new : Bytes) (k : ℕ) → k < 16 → new ≡ slot current k → length new ≡ slot_size synced → synced' ≡ overwrite synced (k * slot_size synced) new → Settled current synced k synced'
+settled_put current synced synced' new k in_image is whole put =
+    record {
+      long = ap length put ∙ put_length synced k new in_image whole;
+      here = ap (λ (i : Bytes). slot i k) put ∙ slot_put synced k new in_image whole ∙ is;
+      there = λ j lt ne. ap (λ (i : Bytes). slot i j) put ∙ slot_other synced k new in_image whole j lt ne;
+    }
+
+-- a slot is given what is kept of its file, and settled
+pub slot_kept :
+    (kept : Kept) (current synced mid new current' synced' : Bytes) (k : ℕ) → k < 16 → length new ≡ slot_size current → take 33 new ≡ take 33 (slot current k) →
+    content new ≡ kept_content kept (content (slot current k)) (content (slot synced k)) → mid ≡ overwrite current (k * slot_size current) new → current' ≡ mid → Settled mid synced k synced' → SlotKept kept k current synced current' synced'
+slot_kept kept current synced mid new current' synced' k in_image whole name bytes put same settled =
+    record {
+      long = ap length (same ∙ put) ∙ put_length current k new in_image whole;
+      name = ap (take 33) here ∙ name;
+      bytes = ap content here ∙ bytes;
+      others = λ j lt ne. ap (λ (i : Bytes). slot i j) (same ∙ put) ∙ slot_other current k new in_image whole j lt ne;
+      settled = subst (λ (x : Bytes). Settled x synced k synced') (sym same) settled;
+    }
+  where
+    here : slot current' k ≡ new
+    here = ap (λ (i : Bytes). slot i k) (same ∙ put) ∙ slot_put current k new in_image whole
 
 -- what belongs to the first slot of a name, made of what belongs to it in two ways
 or_else_kept :

@@ -1,6 +1,6 @@
 -- An image in two halves of equal size: what is surely kept, and what the files hold now.
 -- A file lies in the same slot of both. Names are looked up in the current half.
-use Rattle.std.specs.Prelude.{◌≡◌, ℕ, ◌+◌, ◌%◌, ◌<◌, ◌≤◌, max, cond, [], map, length, take, Some, None, Option, Result, ◌==◌, ◌≢◌, nat_lt, slice_index}
+use Rattle.std.specs.Prelude.{◌≡◌, ℕ, ◌%◌, ◌<◌, ◌≤◌, max, cond, [], map, length, take, Some, None, Option, Result, ◌==◌, ◌≢◌, slice_index}
 use Rattle.std.specs.List.{range_with_len}
 use Rattle.card.specs.declared.fault.Cause.{Cause}
 use Rattle.card.specs.Meaning.{Bytes, Name}
@@ -10,9 +10,13 @@ use Rattle.halves.specs.declared.kept.Kept.TheVariants.{Synced, Current, Mixed}
 use Rattle.image.specs.Layout.{content, slot, slot_count, held, first_of, free_slots}
 use Rattle.image.specs.Stored.{Done, answer_of, refusal}
 
--- even places from the current content, odd ones from the synced, zero where there is none, at the longer length
+-- an even place from the current content, an odd one from the synced, zero where there is none
+abbrev pub mixed_byte : Bytes → Bytes → ℕ → ℕ
+mixed_byte current synced k = cond (k % 2 == 0) (slice_index current k) (slice_index synced k)
+
+-- two contents mixed byte by byte, at the longer length
 unfoldable pub mixed : Bytes → Bytes → Bytes
-mixed current synced = map (λ k. cond (k % 2 == 0) (slice_index current k) (slice_index synced k)) (range_with_len 0 (max (length current) (length synced)))
+mixed current synced = map (mixed_byte current synced) (range_with_len 0 (max (length current) (length synced)))
 
 -- what the synced half has of the file n
 unfoldable pub backed : Bytes → Bytes → Name → Option Bytes
@@ -65,6 +69,14 @@ pub record Settled (current synced : Bytes) (k : ℕ) (synced' : Bytes) : Type 0
   pub here : slot synced' k ≡ slot current k
   pub there : (j : ℕ) → j < slot_count → (j ≢ k) → slot synced' j ≡ slot synced j
 
+-- the slot k has what is kept of its file in both halves, and no other slot changed
+pub record SlotKept (kept : Kept) (k : ℕ) (current synced current' synced' : Bytes) : Type 0 where
+  pub long : length current' ≡ length current
+  pub name : take 33 (slot current' k) ≡ take 33 (slot current k)
+  pub bytes : content (slot current' k) ≡ kept_content kept (content (slot current k)) (content (slot synced k))
+  pub others : (j : ℕ) → j < slot_count → (j ≢ k) → slot current' j ≡ slot current j
+  pub settled : Settled current' synced k synced'
+
 -- of the first k slots, each has what is kept of it in both halves; the others are as they were
 pub record KeptBelow (kept : Kept) (current synced : Bytes) (k : ℕ) (current' synced' : Bytes) : Type 0 where
   pub long : length current' ≡ length current
@@ -75,12 +87,7 @@ pub record KeptBelow (kept : Kept) (current synced : Bytes) (k : ℕ) (current' 
   pub rest : (j : ℕ) → k ≤ j → j < slot_count → slot current' j ≡ slot current j
   pub rest_synced : (j : ℕ) → k ≤ j → j < slot_count → slot synced' j ≡ slot synced j
 
--- the byte at a place of two slots' mixed files, by the files' lengths
-abbrev pub mixed_byte : Bytes → Bytes → ℕ → ℕ → ℕ → ℕ
-mixed_byte current synced length other i = cond (i % 2 == 0) (cond (nat_lt i length) (slice_index current (37 + i)) 0) (cond (nat_lt i other) (slice_index synced (37 + i)) 0)
-
--- the first k bytes of a slot's file are mixed, and the rest of the slot is as it was
-pub record MixedBelow (current synced : Bytes) (length other k : ℕ) (current' : Bytes) : Type 0 where
-  pub head : (i : ℕ) → i < 37 → slice_index current' i ≡ slice_index current i
-  pub bytes : (i : ℕ) → i < k → slice_index current' (37 + i) ≡ mixed_byte current synced length other i
-  pub rest : (i : ℕ) → k ≤ i → slice_index current' (37 + i) ≡ slice_index current (37 + i)
+-- the first k bytes of a file are mixed, and the rest is as it was
+pub record MixedBelow (current synced : Bytes) (k : ℕ) (current' : Bytes) : Type 0 where
+  pub bytes : (i : ℕ) → i < k → slice_index current' i ≡ mixed_byte current synced i
+  pub rest : (i : ℕ) → k ≤ i → slice_index current' i ≡ slice_index current i

@@ -3,13 +3,13 @@ ghost use Rattle.std.specs.Prelude.{◌≡◌, ℕ, ◌+◌, ◌-◌, ◌*◌, �
 ghost use Rattle.card.specs.Calls.{length_told};
 ghost use Rattle.card.specs.Calls.Op.{length_of, read as reading, create as creating, write as writing, set_length, sync as syncing, delete as deleting};
 ghost use Rattle.image.specs.Layout.{held};
-ghost use Rattle.image.specs.Stored.{Empty, ReadInto};
-ghost use Rattle.halves.specs.Halves.{Settled, KeptAs};
+ghost use Rattle.image.specs.Stored.{Empty, ReadInto, PresentAt};
+ghost use Rattle.halves.specs.Halves.{Settled, SlotKept, KeptAs};
 
 use crate::kept::Kept;
-use crate::loss;
+use crate::loss::choose;
 use card::Cause;
-use image::{SLOTS, start};
+use image::{HEAD, SLOTS, at_slot, slot_at};
 
 /// An image in two halves of equal size: what its files hold now, and what is surely kept of them.
 #[derive(Drop)]
@@ -17,17 +17,6 @@ pub struct Halves<'a> {
     current: &'a mut [u8],
     synced: &'a mut [u8],
     ghost equal: { count current.now ≡ count synced.now },
-}
-
-/// Copies a slot of the current half over the same slot of the synced half.
-fn settle(current: &[u8], synced: &mut [u8], k: usize)
-    requires same { count current.now ≡ count synced.old }
-    requires within { k < 16 }
-    ensures { Settled current.now synced.old k synced.new }
-{
-    let at = start(current, k);
-    let end = at + current.len() / SLOTS;
-    synced[at..end].copy_from_slice(&current[at..end]);
 }
 
 impl Halves<'_> {
@@ -45,6 +34,48 @@ impl Halves<'_> {
         image::clear(synced);
         image::clear(current);
         Halves { current, synced }
+    }
+
+    /// The slot of a present file, or why there is none.
+    fn present(&mut self, name: &[u8]) -> Result<usize, Cause>
+        ensures found { PresentAt name.now self.old.current.now result }
+        ensures current { self.new.current.now ≡ self.old.current.now }
+        ensures synced { self.new.synced.now ≡ self.old.synced.now }
+    {
+        // Lent on first: of a field that is passed as a shared slice, only its length stays known.
+        let current = &mut *self.current;
+        image::present(current, name)
+    }
+
+    /// Copies a slot of the current half over the same slot of the synced half.
+    fn settle(&mut self, k: usize)
+        requires { k < 16 }
+        ensures settled { Settled self.old.current.now self.old.synced.now k self.new.synced.now }
+        ensures current { self.new.current.now ≡ self.old.current.now }
+    {
+        // Lent on first, as in `present`.
+        let current = &mut *self.current;
+        at_slot(
+            self.synced,
+            k,
+            |slot| slot.copy_from_slice(slot_at(current, k)),
+        );
+    }
+
+    /// Leaves what is kept of the file in a slot in both halves.
+    fn keep_slot(&mut self, k: usize, choice: Kept)
+        requires within { k < 16 }
+        requires head { 37 ≤ count self.old.current.now / 16 }
+        ensures { SlotKept choice k self.old.current.now self.old.synced.now self.new.current.now self.new.synced.now }
+    {
+        // Lent on first, as in `present`.
+        let synced = &mut *self.synced;
+        at_slot(
+            self.current,
+            k,
+            |slot| choose(slot, slot_at(synced, k), choice),
+        );
+        self.settle(k);
     }
 
     /// How many bytes the file has; none if it is absent.
@@ -70,10 +101,9 @@ impl Halves<'_> {
         ensures paired { Answers creating name.now self.old result self.new }
         ensures size { count self.new.current.now ≡ count self.old.current.now }
     {
-        let current = &mut *self.current;
-        image::create(current, name)?;
-        if let Some(k) = image::find(current, name) {
-            settle(current, self.synced, k);
+        image::create(self.current, name)?;
+        if let Ok(made) = self.present(name) {
+            self.settle(made);
         }
         Ok(())
     }
@@ -99,9 +129,8 @@ impl Halves<'_> {
         ensures paired { Answers syncing name.now self.old result self.new }
         ensures size { count self.new.current.now ≡ count self.old.current.now }
     {
-        let current = &mut *self.current;
-        let k = image::present(current, name)?;
-        settle(current, self.synced, k);
+        let changed = self.present(name)?;
+        self.settle(changed);
         Ok(())
     }
 
@@ -110,10 +139,9 @@ impl Halves<'_> {
         ensures paired { Answers deleting name.now self.old result self.new }
         ensures size { count self.new.current.now ≡ count self.old.current.now }
     {
-        let current = &mut *self.current;
-        let k = image::present(current, name)?;
-        image::delete(current, name)?;
-        settle(current, self.synced, k);
+        let freed = self.present(name)?;
+        image::delete(self.current, name)?;
+        self.settle(freed);
         Ok(())
     }
 
@@ -122,6 +150,12 @@ impl Halves<'_> {
         ensures kept { KeptAs choice self.old.current.now self.old.synced.now self.new.current.now self.new.synced.now }
         ensures size { count self.new.current.now ≡ count self.old.current.now }
     {
-        loss::keep(self.current, self.synced, choice);
+        if self.current.len() / SLOTS < HEAD {
+            return;
+        }
+        // By number, not by chunks of both halves: what a half holds once its chunks were lent out is not known (tried).
+        for k in 0..SLOTS {
+            self.keep_slot(k, choice);
+        }
     }
 }

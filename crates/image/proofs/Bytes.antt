@@ -1,5 +1,5 @@
 -- The bytes of one slot: where its file lies, and what a write into the slot makes of it.
-use Rattle.std.proofs.Common.{◌≡◌, ℕ, ◌+◌, ◌-◌, ◌<◌, ◌≤◌, min, max, ◌++◌, length, get_or, take, drop, replicate, sym, ap, ◌∙◌, ap₂, arith, length-drop, length-take}
+use Rattle.std.proofs.Common.{◌≡◌, ℕ, ◌+◌, ◌-◌, ◌*◌, ◌<◌, ◌≤◌, min, max, ◌++◌, length, get_or, take, drop, replicate, sym, ap, ◌∙◌, ap₂, arith, length-drop, length-take}
 use native.Mathlib.Decide.{dec_lt}
 use lib.ListN.{length-replicate}
 use borrow.Rule.Slice.PartMut.{put_mid}
@@ -17,6 +17,14 @@ put_overwrite a k xs ys zs e n = ap₂ (λ (u v : Bytes). take a xs ++ (u ++ v))
 pub length_content : (s : Bytes) → length (content s) ≡ min (number_at s 33) (length s - 37)
 unfolding content
 length_content s = simp (length-take, length-drop)
+
+-- the number that a slot has at 33, by the first four bytes from there on
+pub number_first :
+    (s bytes : Bytes) → bytes ≡ take 4 (drop 33 s) → get_or bytes 0 0 * 16777216 + get_or bytes 1 0 * 65536 + get_or bytes 2 0 * 256 + get_or bytes 3 0 ≡ number_at s 33
+number_first s bytes e = omega (arith, at 0 (omega arith), at 1 (omega arith), at 2 (omega arith), at 3 (omega arith))
+  where
+    at : (i : ℕ) → i < 4 → get_or bytes i 0 ≡ get_or s (33 + i) 0
+    at i lt = ap (λ (l : Bytes). get_or l i 0) e ∙ get_or-take 4 (drop 33 s) i 0 lt ∙ get_or-drop 33 s i 0
 
 -- the file's bytes lie in the slot, past the head
 pub content_within : (s : Bytes) → 37 ≤ length s → 37 + length (content s) ≤ length s

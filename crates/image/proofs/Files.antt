@@ -1,5 +1,5 @@
 -- What an image holds of a file, by the slot that has its name; and what a change of one slot does.
-use Rattle.std.proofs.Common.{◌≡◌, ℕ, suc, ◌*◌, ◌<◌, Bool, true, false, eqb, [], length, take, Some, None, Err, Option, sym, refl, ap, ◌∙◌, subst, ap₂, ⊎_elim, arith}
+use Rattle.std.proofs.Common.{◌≡◌, ℕ, suc, ◌*◌, ◌<◌, Bool, true, false, eqb, [], length, take, Some, None, Err, Option, MatchOption, IsSomeAnd, sym, refl, ap, ◌∙◌, subst, ap₂, ⊎_elim, arith}
 use native.Mathlib.Decide.{ℕ_discrete}
 use Rattle.std.specs.Str.{bytes_eq}
 use Rattle.std.proofs.lemmas.Slice.Eq.{bytes_eq-Decides}
@@ -7,7 +7,7 @@ use Rattle.std.proofs.lemmas.Bool.{cases_Bool, ne_eqb, both_ways}
 use Rattle.card.specs.declared.fault.Cause.{Cause}
 use Rattle.card.specs.declared.fault.Cause.TheVariants.{Absent, Range}
 use Rattle.card.specs.Meaning.{Bytes, Name}
-use Rattle.card.specs.Calls.{Op, create, test, tested, worked, after_name, in_range, name_ok, overwrite}
+use Rattle.card.specs.Calls.{Op, create, test, tested, worked, after_name, in_range, name_ok, overwrite, length_told}
 use Rattle.image.specs.Layout.{named, free, content, slot, slot_size, held, first_of, free_slots, free_below, FirstSlot}
 use Rattle.image.specs.Stored.{answer_of, or_device, crowded, Frees, Done, Stored}
 use Rattle.image.proofs.Named.{named_parts, not_named, named_front, free_front, free_unnamed}
@@ -153,3 +153,11 @@ crowded_none image none = ap (λ (k : ℕ). eqb k 0) (free_none (slot image) 16 
 pub crowded_some : (image : Bytes) (k : ℕ) → FirstSlot free image (Some k) → eqb (free_slots image) 0 ≡ false
 unfolding free_slots
 crowded_some image k found = ne_eqb (free_below (slot image) 16) 0 (free_some (slot image) 16 k found.0 found.1)
+
+-- what is told of the slot that was found, if any, is the length of the file
+pub told_length :
+    (image : Bytes) (n : Name) (Told : ℕ → ℕ → Type 0) (found told : Option ℕ) → FirstSlot (named n) image found → MatchOption found (told ≡ None) (λ k. IsSomeAnd told (Told k)) →
+    ((k l : ℕ) → k < 16 → Told k l → l ≡ length (content (slot image k))) → told ≡ length_told (held image n)
+told_length image n Told None told none is each = is ∙ sym (ap length_told (held_none image n none))
+told_length image n Told (Some k) None at is each = absurd is
+told_length image n Told (Some k) (Some l) at is each = ap Some (each k l at.0 is) ∙ sym (ap length_told (held_at image n k at))

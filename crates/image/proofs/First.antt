@@ -113,6 +113,15 @@ free_none f zero none = refl
 free_none f (suc k) none =
     omega (arith, free_none f k (λ j lt. none j (omega arith)), ap one_if (none k (omega arith)))
 
+pub free_most : (f : ℕ → Bytes) (k : ℕ) → free_below f k ≤ k
+unfolding free_below
+free_most f zero = omega arith
+free_most f (suc k) = by (free_most f k) (cases_Bool (free (f k)))
+  where
+    by : free_below f k ≤ k → (free (f k) ≡ true) ⊎ (free (f k) ≡ false) → free_below f k + one_if (free (f k)) ≤ suc k
+    by below (inl t) = omega (arith, below, ap one_if t)
+    by below (inr e) = omega (arith, below, ap one_if e)
+
 pub free_all : (f : ℕ → Bytes) (k : ℕ) → ((j : ℕ) → j < k → free (f j) ≡ true) → free_below f k ≡ k
 unfolding free_below
 free_all f zero all = refl

@@ -1,47 +1,78 @@
--- Slots freed one after the other, and what an image then holds.
-use Rattle.std.proofs.Common.{◌≡◌, ℕ, suc, ◌+◌, ◌*◌, ◌/◌, ◌<◌, ◌≤◌, Bool, true, false, cond, length, Some, None, sym, refl, ap, ◌∙◌, ⊎_elim, arith, below_more}
+-- Slots freed one after the other, an image of zeros, and what an image then holds.
+use Rattle.std.proofs.Common.{◌≡◌, ℕ, suc, ◌+◌, ◌-◌, ◌*◌, ◌<◌, ◌≤◌, Bool, true, false, cond, ◌⊎◌, length, get_or, replicate, Some, None, sym, refl, ap, ◌∙◌, subst, inl, inr, ⊎_elim, arith}
+use native.Mathlib.Decide.{ℕ_discrete, dec_le, dec_lt}
+use lib.ListN.{length-replicate}
+use Rattle.std.proofs.lemmas.List.{get_or-replicate, get_or_past}
 use Rattle.std.proofs.lemmas.Bool.{cases_Bool, both_ways, le-leb, lt-leb}
 use Rattle.card.specs.Meaning.{Bytes, Name}
 use Rattle.card.specs.Calls.{overwrite, delete}
 use Rattle.image.specs.Layout.{named, free, content, slot, slot_size, held, first_of, free_slots, FirstSlot}
 use Rattle.image.specs.Stored.{Freed, Done, Empty}
-use Rattle.image.proofs.Named.{free_unnamed, free_head, named_parts, not_named}
-use Rattle.image.proofs.First.{first_same, first_none, free_gain, free_none, free_all}
-use Rattle.image.proofs.Slices.{slot_put, slot_other, put_length, length_slot}
+use Rattle.image.proofs.Named.{free_unnamed, free_head, named_parts, not_named, is_free}
+use Rattle.image.proofs.First.{first_same, first_none, free_gain, free_none, free_all, free_most}
+use Rattle.image.proofs.Slices.{slot_put, slot_other, put_length, length_slot, slot_at}
+
+-- of the slots of which a test is true some are freed: each slot is as it was, or was one of them and is free
+pub record Freeing (is : Bytes → Bool) (image image' : Bytes) : Type 0 where
+  pub long : length image' ≡ length image
+  pub slots : (j : ℕ) → j < 16 → (slot image' j ≡ slot image j) ⊎ ((is (slot image j) ≡ true) × (free (slot image' j) ≡ true))
 
 module _ (is : Bytes → Bool) (image : Bytes) where
-  pub freed_none : Freed is image 0 image
-  freed_none = record { long = refl; free = λ j lt. absurd (omega arith); kept = λ j lt. absurd (omega arith); rest = λ j le lt. refl }
+  pub freeing_none : Freeing is image image
+  freeing_none = record { long = refl; slots = λ j lt. inl refl }
 
-  module _ (k : ℕ) (image' : Bytes) (so_far : Freed is image k image') (in_image : k < 16) where
-    -- a slot of which the test is false is passed over
-    pub freed_skip : is (slot image k) ≡ false → Freed is image (k + 1) image'
-    freed_skip not =
-        record {
-          long = so_far.long;
-          free = below_more _ k so_far.free (λ t. absurd (both_ways _ not t));
-          kept = below_more _ k so_far.kept (λ e. so_far.rest k (omega arith) in_image);
-          rest = λ j le lt. so_far.rest j (omega arith) lt;
-        }
+  -- with none left of which the test is true, all are freed
+  pub freed : (image' : Bytes) → Freeing is image image' → ((j : ℕ) → j < 16 → is (slot image' j) ≡ false) → Freed is image image'
+  freed image' some none =
+      record {
+        long = some.long;
+        free = λ j lt t. ⊎_elim (λ e. absurd (both_ways _ (none j lt) (ap is e ∙ t))) (λ p. p.1) (some.slots j lt);
+        kept = λ j lt f. ⊎_elim (λ e. e) (λ p. absurd (both_ways _ f p.0)) (some.slots j lt);
+      }
 
-    -- one of which it is true is freed
-    pub freed_more : (new image'' : Bytes) → is (slot image k) ≡ true → length new ≡ slot_size image' → free new ≡ true → image'' ≡ overwrite image' (k * slot_size image') new → Freed is image (k + 1) image''
-    freed_more new image'' t whole vacant put =
-        record {
-          long = ap length put ∙ put_length image' k new in_image whole ∙ so_far.long;
-          free = below_more _ k (λ j lt u. ap free (there j (omega arith) (λ e. omega arith)) ∙ so_far.free j lt u) (λ u. ap free here ∙ vacant);
-          kept = below_more _ k (λ j lt e. there j (omega arith) (λ e. omega arith) ∙ so_far.kept j lt e) (λ e. absurd (both_ways _ e t));
-          rest = λ j le lt. there j lt (λ e. omega arith) ∙ so_far.rest j (omega arith) lt;
-        }
+  -- one slot more is freed
+  module _ (image' : Bytes) (some : Freeing is image image') (k : ℕ) (new image'' : Bytes) (in_image : k < 16) (true_here : is (slot image' k) ≡ true) (whole : length new ≡ slot_size image') (vacant : free new ≡ true)
+      (put : image'' ≡ overwrite image' (k * slot_size image') new) where
+    here : slot image'' k ≡ new
+    here = ap (λ (i : Bytes). slot i k) put ∙ slot_put image' k new in_image whole
+
+    there : (j : ℕ) → j < 16 → (j ≡ k → ⊥) → slot image'' j ≡ slot image' j
+    there j lt ne = ap (λ (i : Bytes). slot i j) put ∙ slot_other image' k new in_image whole j lt ne
+
+    pub freeing_more : Freeing is image image''
+    freeing_more = record { long = ap length put ∙ put_length image' k new in_image whole ∙ some.long; slots = slots }
       where
-        here : slot image'' k ≡ new
-        here = ap (λ (i : Bytes). slot i k) put ∙ slot_put image' k new in_image whole
+        was : is (slot image k) ≡ true
+        was = ⊎_elim (λ e. ap is (sym e) ∙ true_here) (λ p. p.0) (some.slots k in_image)
 
-        there : (j : ℕ) → j < 16 → (j ≡ k → ⊥) → slot image'' j ≡ slot image' j
-        there j lt ne = ap (λ (i : Bytes). slot i j) put ∙ slot_other image' k new in_image whole j lt ne
+        slots : (j : ℕ) → j < 16 → (slot image'' j ≡ slot image j) ⊎ ((is (slot image j) ≡ true) × (free (slot image'' j) ≡ true))
+        slots j lt = by (ℕ_discrete j k)
+          where
+            by : Dec (j ≡ k) → (slot image'' j ≡ slot image j) ⊎ ((is (slot image j) ≡ true) × (free (slot image'' j) ≡ true))
+            by (yes e) = subst (λ (i : ℕ). (slot image'' i ≡ slot image i) ⊎ ((is (slot image i) ≡ true) × (free (slot image'' i) ≡ true))) (sym e) (inr (was, ap free here ∙ vacant))
+            by (no ne) = ⊎_elim (λ e. inl (there j lt ne ∙ e)) (λ p. inr (p.0, ap free (there j lt ne) ∙ p.1)) (some.slots j lt)
+
+    -- and one more is free, if the test is of no free slot
+    pub freeing_gain : free (slot image' k) ≡ false → 16 - free_slots image'' < 16 - free_slots image'
+    unfolding free_slots
+    freeing_gain taken = omega (arith, more, free_most (slot image'') 16)
+      where
+        more : suc (free_slots image') ≤ free_slots image''
+        more = free_gain (slot image') (slot image'') 16 k in_image taken (ap free here ∙ vacant) keep
+          where
+            keep : (i : ℕ) → i < 16 → free (slot image' i) ≡ true → free (slot image'' i) ≡ true
+            keep i lt t = by (ℕ_discrete i k)
+              where
+                by : Dec (i ≡ k) → free (slot image'' i) ≡ true
+                by (yes e) = subst (λ (j : ℕ). free (slot image'' j) ≡ true) (sym e) (ap free here ∙ vacant)
+                by (no ne) = ap free (there i lt ne) ∙ t
+
+-- a slot of the name is not free
+pub named_taken : (n : Name) (s : Bytes) → named n s ≡ true → free s ≡ false
+named_taken n s is = ⊎_elim (λ t. absurd (both_ways _ (free_unnamed n s t) is)) (λ f. f) (cases_Bool (free s))
 
 -- with every slot of the name freed, the file is absent, and no other is touched
-pub done_deleted : (image image' : Bytes) (n : Name) (k : ℕ) → FirstSlot (named n) image (Some k) → Freed (named n) image 16 image' → Done delete n image image'
+pub done_deleted : (image image' : Bytes) (n : Name) (k : ℕ) → FirstSlot (named n) image (Some k) → Freed (named n) image image' → Done delete n image image'
 unfolding held free_slots
 done_deleted image image' n k found freed = record { own = own; others = others; slots = λ m belongs ne. same m (ne refl) belongs belongs (λ j lt t. refl); frees = gain }
   where
@@ -65,21 +96,12 @@ done_deleted image image' n k found freed = record { own = own; others = others;
         (λ j lt t. ⊎_elim (λ u. absurd (both_ways _ (free_unnamed m (slot image' j) (freed.free j lt u)) t)) (λ e. ap content (freed.kept j lt e)) (cases_Bool (named n (slot image j))))
 
     taken : free (slot image k) ≡ false
-    taken = ⊎_elim (λ t. absurd (both_ways _ (free_unnamed n (slot image k) t) found.1)) (λ f. f) (cases_Bool (free (slot image k)))
+    taken = named_taken n (slot image k) found.1
 
     gain : suc (free_slots image) ≤ free_slots image'
     gain =
         free_gain (slot image) (slot image') 16 k found.0 taken (freed.free k found.0 found.1)
         (λ i lt t. ap free (freed.kept i lt (free_unnamed n (slot image i) t)) ∙ t)
-
--- with every slot freed, there is no file
-pub empty_freed : (image image' : Bytes) → 37 ≤ slot_size image → Freed (λ s. true) image 16 image' → Empty image'
-unfolding held free_slots
-empty_freed image image' large freed =
-    record {
-      none = λ n. first_none n (slot image') (λ j. content (slot image' j)) 16 (λ j lt. free_unnamed n (slot image' j) (freed.free j lt refl));
-      free = free_all (slot image') 16 (λ j lt. freed.free j lt refl) ∙ sym (ap (λ (b : Bool). cond b 16 0) (le-leb 37 (slot_size image') (omega (arith, ap (λ (m : ℕ). m / 16) freed.long))));
-    }
 
 -- slots without room for a head hold no file
 pub empty_small : (image : Bytes) → slot_size image < 37 → Empty image
@@ -91,3 +113,27 @@ empty_small image small =
           free_none (slot image) 16 (λ j lt. ⊎_elim (λ t. absurd (omega (arith, free_head (slot image j) t, length_slot image j lt))) (λ f. f) (cases_Bool (free (slot image j))))
           ∙ sym (ap (λ (b : Bool). cond b 16 0) (lt-leb 37 (slot_size image) small));
     }
+
+zero_at : (size i : ℕ) → ◌≡◌ {A = ℕ} (get_or (replicate size 0) i 0) 0
+zero_at size i = by (dec_lt i size)
+  where
+    by : Dec (i < size) → ◌≡◌ {A = ℕ} (get_or (replicate size 0) i 0) 0
+    by (yes lt) = get_or-replicate size i 0 0 lt
+    by (no past) = get_or_past (replicate size 0) i 0 (omega (arith, length-replicate {A = ℕ} size 0))
+
+-- an image of zeros holds no file, and each slot that has room for a head is free
+pub empty_zeros : (image : Bytes) (size : ℕ) → image ≡ replicate size 0 → Empty image
+unfolding held free_slots
+empty_zeros image size zeros = by (dec_le 37 (slot_size image))
+  where
+    vacant : 37 ≤ slot_size image → (j : ℕ) → j < 16 → free (slot image j) ≡ true
+    vacant large j lt =
+        is_free (slot image j) (omega (arith, length_slot image j lt)) (slot_at image j 32 (omega arith) ∙ ap (λ (i : Bytes). get_or i (j * slot_size image + 32) 0) zeros ∙ zero_at size (j * slot_size image + 32))
+
+    by : Dec (37 ≤ slot_size image) → Empty image
+    by (yes large) =
+        record {
+          none = λ n. first_none n (slot image) (λ j. content (slot image j)) 16 (λ j lt. free_unnamed n (slot image j) (vacant large j lt));
+          free = free_all (slot image) 16 (vacant large) ∙ sym (ap (λ (b : Bool). cond b 16 0) (le-leb 37 (slot_size image) large));
+        }
+    by (no small) = empty_small image (omega arith)

@@ -24,18 +24,19 @@ pub length_slot : (image : Bytes) (k : ℕ) → k < 16 → length (slot image k)
 unfolding slot
 length_slot image k lt = simp (length-take, length-drop) (omega (arith, slot_within image k lt))
 
--- the part of the image from a slot's start on is the slot, and a write there is a write of the slot
-pub slot_part : (image : Bytes) (k at : ℕ) → at ≡ k * slot_size image → take (at + slot_size image - at) (drop at image) ≡ slot image k
-unfolding slot
-slot_part image k at is =
-    let e : at + slot_size image - at ≡ slot_size image = omega arith in
-    ap₂ (λ (n p : ℕ). take n (drop p image)) e is
+-- the part of the image between a slot's bounds is the slot, and a write there is a write of the slot
+module _ (image : Bytes) (k at end : ℕ) (start : at ≡ k * slot_size image) (stop : end ≡ at + slot_size image) where
+  long : end - at ≡ slot_size image
+  long = omega arith
 
-pub slot_write : (image new : Bytes) (k at : ℕ) → at ≡ k * slot_size image → length new ≡ slot_size image → put_mid at (at + slot_size image - at) image new ≡ overwrite image (k * slot_size image) new
-slot_write image new k at is whole =
-    put_overwrite at (at + slot_size image - at) image new new refl (omega (arith, whole)) ∙ ap (λ (p : ℕ). overwrite image p new) is
+  pub slot_part : take (end - at) (drop at image) ≡ slot image k
+  unfolding slot
+  slot_part = ap₂ (λ (n p : ℕ). take n (drop p image)) long start
 
-slot_at : (image : Bytes) (k i : ℕ) → i < slot_size image → get_or (slot image k) i 0 ≡ get_or image (k * slot_size image + i) 0
+  pub slot_write : (new : Bytes) → length new ≡ slot_size image → put_mid at (end - at) image new ≡ overwrite image (k * slot_size image) new
+  slot_write new whole = put_overwrite at (end - at) image new new refl (long ∙ sym whole) ∙ ap (λ (p : ℕ). overwrite image p new) start
+
+pub slot_at : (image : Bytes) (k i : ℕ) → i < slot_size image → get_or (slot image k) i 0 ≡ get_or image (k * slot_size image + i) 0
 unfolding slot
 slot_at image k i lt = get_or-take (slot_size image) (drop (k * slot_size image) image) i 0 lt ∙ get_or-drop (k * slot_size image) image i 0
 

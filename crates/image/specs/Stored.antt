@@ -78,12 +78,11 @@ abbrev pub ReadInto : Option Bytes → ℕ → Bytes → Result (Unit {0}) Cause
 ReadInto f place old (Ok u) new = new ≡ part_of f place (length old)
 ReadInto f place old (Err x) new = new ≡ old
 
--- of the first k slots, those of which a test is true are free and have no name; the others are as they were
-pub record Freed (is : Bytes → Bool) (image : Bytes) (k : ℕ) (image' : Bytes) : Type 0 where
+-- the slots of which a test is true are free and have no name; the others are as they were
+pub record Freed (is : Bytes → Bool) (image image' : Bytes) : Type 0 where
   pub long : length image' ≡ length image
-  pub free : (j : ℕ) → j < k → is (slot image j) ≡ true → free (slot image' j) ≡ true
-  pub kept : (j : ℕ) → j < k → is (slot image j) ≡ false → slot image' j ≡ slot image j
-  pub rest : (j : ℕ) → k ≤ j → j < slot_count → slot image' j ≡ slot image j
+  pub free : (j : ℕ) → j < slot_count → is (slot image j) ≡ true → free (slot image' j) ≡ true
+  pub kept : (j : ℕ) → j < slot_count → is (slot image j) ≡ false → slot image' j ≡ slot image j
 
 -- an image with no file, and with every slot free that is large enough
 pub record Empty (image : Bytes) : Type 0 where

@@ -11,7 +11,7 @@ mod slots;
 
 pub use empty::clear;
 pub use fault::blame;
-pub use slot::{FILE_LENGTH, HEAD, file_length, put_length};
+pub use slot::{FILE_LENGTH, HEAD, content, resize};
 pub use slots::{
-    SLOTS, create, delete, find, length, present, read, set_length, start, sync, write,
+    SLOTS, at_slot, create, delete, find, length, present, read, set_length, slot_at, sync, write,
 };

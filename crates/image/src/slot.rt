@@ -16,6 +16,9 @@ const NAME_LENGTH: usize = 32;
 /// Where the file's length stands.
 pub const FILE_LENGTH: usize = 33;
 
+// `head` is asked by each function below. Tried as a ghost field of a struct: each method has to take the bytes out of it
+// again, its clauses say `self.exit.0.now` for `slot.new`, and for reading there has to be a second struct.
+
 /// Whether the slot is free for a file.
 pub fn is_free(slot: &[u8]) -> bool
     ensures { result ≡ free slot.now }
@@ -28,37 +31,26 @@ pub fn is_named(slot: &[u8], name: &[u8]) -> bool
     ensures { result ≡ named name.now slot.now }
 {
     let n = name.len();
-    is_name(name) && slot.len() >= HEAD && slot[NAME_LENGTH] as usize == n && slot[0..n] == name[..]
+    is_name(name)
+        && slot.len() >= HEAD
+        && usize::from(slot[NAME_LENGTH]) == n
+        && slot[0..n] == name[..]
 }
 
-/// How many bytes the file in the slot has. For the crates of this repository: it wants a slot with its head.
-pub fn file_length(slot: &[u8]) -> usize
+/// The bytes of the file in the slot. For the crates of this repository: it wants a slot with its head.
+pub fn content(slot: &[u8]) -> &[u8]
     requires { 37 ≤ count slot.now }
-    ensures is { result ≡ count (content slot.now) }
-    ensures small { result < 2 ^ 32 }
+    ensures is { result.now ≡ content slot.now }
+    ensures small { count result.now < 2 ^ 32 }
 {
-    let bytes = [
-        slot[FILE_LENGTH],
-        slot[FILE_LENGTH + 1],
-        slot[FILE_LENGTH + 2],
-        slot[FILE_LENGTH + 3],
-    ];
-    let stored = u32::from_be_bytes(bytes) as usize;
-    stored.min(slot.len() - HEAD)
+    let length = slot[FILE_LENGTH..].first_chunk::<4>().unwrap();
+    let stored = u32::from_be_bytes(*length) as usize;
+    let room = &slot[HEAD..];
+    &room[..stored.min(room.len())]
 }
 
-/// Fills the buffer with the file's bytes from a place on.
-pub fn copy_out(slot: &[u8], place: usize, buffer: &mut [u8])
-    requires head { 37 ≤ count slot.now }
-    requires inside { place + count buffer.old ≤ count (content slot.now) }
-    ensures { buffer.new ≡ part (content slot.now) place (count buffer.old) }
-{
-    let from = HEAD + place;
-    buffer.copy_from_slice(&slot[from..from + buffer.len()]);
-}
-
-/// Writes down how many bytes the file has. For the crates of this repository: it wants a slot with its head.
-pub fn put_length(slot: &mut [u8], length: usize)
+/// Writes down how many bytes the file has.
+fn put_length(slot: &mut [u8], length: usize)
     requires head { 37 ≤ count slot.old }
     requires small { length < 2 ^ 32 }
     ensures before { take 33 slot.new ≡ take 33 slot.old }
@@ -78,20 +70,20 @@ pub fn put_bytes(slot: &mut [u8], place: usize, bytes: &[u8])
     ensures content { content slot.new ≡ overwritten (content slot.old) place bytes.now }
     ensures name { take 33 slot.new ≡ take 33 slot.old }
 {
-    let old = file_length(slot);
+    let old = content(slot).len();
     let at = HEAD + place;
     slot[at..at + bytes.len()].copy_from_slice(bytes);
     put_length(slot, old.max(place + bytes.len()));
 }
 
-/// Cuts the file, or fills it with zeros, to a length.
+/// Cuts the file, or fills it with zeros, to a length. For the crates of this repository: it wants a slot with its head.
 pub fn resize(slot: &mut [u8], length: usize)
     requires fits { 37 + length ≤ count slot.old }
     requires small { length < 2 ^ 32 }
     ensures content { content slot.new ≡ resized (content slot.old) length }
     ensures name { take 33 slot.new ≡ take 33 slot.old }
 {
-    let kept = file_length(slot).min(length);
+    let kept = content(slot).len().min(length);
     slot[HEAD + kept..HEAD + length].fill(0);
     put_length(slot, length);
 }

@@ -10,38 +10,43 @@ ghost use Rattle.image.specs.Stored.{Stored, PresentAt, ReadInto, Freed, SlotDon
 use crate::slot;
 use crate::slot::HEAD;
 use card::{Cause, FILE_LIMIT, is_name};
+use std::ops::Range;
 
 /// The slots of an image.
 pub const SLOTS: usize = 16;
 
-/// Where a slot of the image begins. For the crates of this repository: it wants one of the 16.
-pub fn start(image: &[u8], k: usize) -> usize
+// `k < 16` is asked where a slot is taken by its number: `0..SLOTS` gives plain numbers to the loops and searches, of which
+// each would have to make the type first.
+
+/// The bounds of a slot of the image.
+fn bounds(image: &[u8], k: usize) -> Range<usize>
     requires { k < 16 }
-    ensures is { result ≡ k * (count image.now / 16) }
-    ensures within { result + count image.now / 16 ≤ count image.now }
+    ensures start { result.start ≡ k * (count image.now / 16) }
+    ensures end { result.end ≡ result.start + count image.now / 16 }
+    ensures within { result.end ≤ count image.now }
 {
-    k * (image.len() / SLOTS)
+    let size = image.len() / SLOTS;
+    let start = k * size;
+    start..start + size
 }
 
-/// A slot of the image.
-fn slot_at(image: &[u8], k: usize) -> &[u8]
+/// A slot of the image. For the crates of this repository: it wants one of the 16.
+pub fn slot_at(image: &[u8], k: usize) -> &[u8]
     requires { k < 16 }
     ensures is { result.now ≡ slot_of image.now k }
     ensures long { count result.now ≡ count image.now / 16 }
 {
-    let at = start(image, k);
-    &image[at..at + image.len() / SLOTS]
+    &image[bounds(image, k)]
 }
 
-/// Does some work on a slot of the image.
-pub(crate) fn at_slot<F: FnOnce(&mut [u8])>(image: &mut [u8], k: usize, work: F)
+/// Does some work on a slot of the image. For the crates of this repository: it wants one of the 16.
+pub fn at_slot<F: FnOnce(&mut [u8])>(image: &mut [u8], k: usize, work: F)
     requires within { k < 16 }
     requires callable { FnOnceTakesAtMut F.FnOnce work (slot_of image.old k) }
     ensures { SlotDone (FnOnceReturnsAtMut F.FnOnce work) k image.old image.new }
 {
-    let at = start(image, k);
-    let end = at + image.len() / SLOTS;
-    work(&mut image[at..end]);
+    let slot = bounds(image, k);
+    work(&mut image[slot]);
 }
 
 /// The first slot that has the file of that name.
@@ -98,11 +103,7 @@ pub fn length(image: &mut [u8], name: &[u8]) -> Result<Option<u32>, Cause>
     if !is_name(name) {
         return Err(Cause::Range);
     }
-    // Tried with map: what its closure asks of a slot's number is left unproved.
-    match find(image, name) {
-        Some(k) => Ok(Some(slot::file_length(slot_at(image, k)) as u32)),
-        None => Ok(None),
-    }
+    Ok(find(image, name).map(|k| slot::content(slot_at(image, k)).len() as u32))
 }
 
 /// Fills the buffer with the file's bytes from a place on.
@@ -111,11 +112,12 @@ pub fn read(image: &mut [u8], name: &[u8], place: u32, buffer: &mut [u8]) -> Res
     ensures told { ReadInto (held image.old name.now) place buffer.old result buffer.new }
 {
     let k = present(image, name)?;
-    let slot = slot_at(image, k);
-    if !ends_within(place, buffer.len(), slot::file_length(slot)) {
+    let file = slot::content(slot_at(image, k));
+    if !ends_within(place, buffer.len(), file.len()) {
         return Err(Cause::Range);
     }
-    slot::copy_out(slot, place as usize, buffer);
+    let from = place as usize;
+    buffer.copy_from_slice(&file[from..from + buffer.len()]);
     Ok(())
 }
 
@@ -141,7 +143,7 @@ pub fn write(image: &mut [u8], name: &[u8], place: u32, bytes: &[u8]) -> Result<
     ensures { Stored (writing place bytes.now) name.now image.old result image.new }
 {
     let k = present(image, name)?;
-    if !may_write(slot::file_length(slot_at(image, k)), place, bytes.len()) {
+    if !may_write(slot::content(slot_at(image, k)).len(), place, bytes.len()) {
         return Err(Cause::Range);
     }
     if !ends_within(place, bytes.len(), room(image)) {
@@ -181,12 +183,10 @@ pub fn sync(image: &mut [u8], name: &[u8]) -> Result<(), Cause>
 
 /// Frees every slot that has the name; an image that was made empty has one at most.
 fn free_all(image: &mut [u8], name: &[u8])
-    ensures { Freed (named name.now) image.old 16 image.new }
+    ensures { Freed (named name.now) image.old image.new }
 {
-    for k in 0..SLOTS {
-        if slot::is_named(slot_at(image, k), name) {
-            at_slot(image, k, |slot| slot::release(slot));
-        }
+    while let Some(k) = find(image, name) {
+        at_slot(image, k, |slot| slot::release(slot));
     }
 }
 

@@ -1,4 +1,4 @@
-use Rattle.std.proofs.Common.{◌≡◌, ℕ, ◌-◌, [], ◌++◌, length, take, drop, sym, ap, ◌∙◌, arith, length-drop}
+use Rattle.std.proofs.Common.{◌≡◌, ◌-◌, [], ◌++◌, length, take, drop, sym, ap, ◌∙◌, arith, length-drop}
 use borrow.Rule.Slice.PartMut.{put_mid}
 use Rattle.std.proofs.lemmas.Slice.{take-put_mid_below}
 use Rattle.std.proofs.lemmas.List.{take_rest, drop_at, length-take-le, append-nil, drop_all}
@@ -15,7 +15,7 @@ returns-in-Synced c =
     let synced = c.args.synced.now in
     let n = length current - 33 in
     let new = c.copy_from_slice.new.self in
-    let is : new ≡ drop 33 synced = c.copy_from_slice.ensures.after ∙ ap (λ (k : ℕ). take (k - 33) (drop 33 synced)) c.requires.same ∙ take_rest synced 33 in
+    let is : new ≡ drop 33 synced = c.copy_from_slice.ensures.after ∙ take_rest synced 33 in
     let end : drop n (drop 33 current) ≡ [] = drop_all n (drop 33 current) (simp length-drop (omega arith)) in
     let rest : drop 33 (put_mid 33 n current new) ≡ drop 33 synced =
     drop_at (take 33 current) _ 33 (length-take-le 33 current (omega arith)) ∙ ap (λ (l : Bytes). new ++ l) end ∙ append-nil new ∙ is in

@@ -1,35 +1,47 @@
-use Rattle.std.proofs.Common.{◌≡◌, ℕ, ◌<◌, max, length, take, sym, ◌∙◌, subst, ap₂, arith, length-take}
-use Rattle.std.proofs.lemmas.List.{ext_get_or, get_or-take}
-use Rattle.card.specs.Numbers.{number_at}
+use Rattle.std.proofs.Common.{rules, ◌≡◌, ℕ, ◌+◌, ◌-◌, ◌≤◌, max, length, take, drop, ap, ◌∙◌, subst, arith}
+use Rattle.card.specs.Meaning.{Bytes}
+use Rattle.card.specs.Calls.{resized}
+use Rattle.card.proofs.Contents.{length_resized}
 use Rattle.image.specs.Layout.{content}
-use Rattle.halves.specs.Halves.{MixedBelow}
 use Rattle.image.proofs.Bytes.{content_within}
-use Rattle.halves.proofs.Mixing.{content_mixed}
+use Rattle.halves.specs.Halves.{MixedBelow}
+use Rattle.halves.proofs.Mixing.{mixed_all, file_bytes, put_content, put_name}
 use Rattle.halves.proofs.loss.mix.Goals as goal
 
-pub mix_bytes-requires : goal.mix_bytes-requires
-mix_bytes-requires c =
-    let a = content_within c.args.current.now c.requires.head in
-    let s = content_within c.args.synced.now (omega arith) in
-    record { current = omega (arith, c.file_length-length.ensures.is); synced = omega (arith, c.file_length-other.ensures.is); same = c.requires.same }
+pub resize-requires-clause-fits : goal.resize-requires-clause-fits
+resize-requires-clause-fits c =
+    omega (arith, ap length c.content-file.ensures.is, ap length c.content.ensures.is, content_within c.args.current.now c.requires.head, content_within c.args.synced.now (omega arith))
 
-pub returns : goal.returns
-returns c =
-    let current = c.args.current.now in
-    let synced = c.args.synced.now in
-    let mid = c.mix_bytes.new.current in
-    let new = c.put_length.new.slot in
-    let long : length mid ≡ length current = c.mix_bytes.auto.current in
-    let mix : MixedBelow current synced (length (content current)) (length (content synced)) (max (length (content current)) (length (content synced))) mid =
-    subst (λ (s : ℕ). MixedBelow current synced (length (content current)) s (max (length (content current)) s) mid) c.file_length-other.ensures.is
-    (subst (λ (a : ℕ). MixedBelow current synced a c.file_length-other.result (max a c.file_length-other.result) mid) c.file_length-length.ensures.is c.mix_bytes.ensures) in
-    let number : number_at new 33 ≡ max (length (content current)) (length (content synced)) =
-    c.put_length.ensures.number ∙ c.max.ensures ∙ ap₂ max c.file_length-length.ensures.is c.file_length-other.ensures.is in
-    let size : length (take 33 mid) ≡ length (take 33 current) = simp length-take (omega (arith, long)) in
-    record {
-      content = content_mixed current synced mid new c.requires.head c.requires.same long mix c.put_length.ensures.after number;
-      name =
-          c.put_length.ensures.before
-          ∙ ext_get_or 0 (take 33 mid) (take 33 current) size
-          (λ i lt. let below : i < 33 = omega (arith, length-take 33 mid) in get_or-take 33 mid i 0 below ∙ mix.head i (omega arith) ∙ sym (get_or-take 33 current i 0 below));
-    }
+pub slice_bounds-byte-items-end : goal.slice_bounds-byte-items-end
+slice_bounds-byte-items-end c =
+    let long : length (content c.resize.new.slot) ≡ c.max-length.result = ap length c.resize.ensures.content ∙ length_resized (content c.args.current.now) c.max-length.result in
+    let fits : 37 + c.max-length.result ≤ length c.resize.new.slot = omega (arith, long, content_within c.resize.new.slot (omega arith)) in
+    search (rules, fits)
+
+pub returns-clause-content : goal.returns-clause-content
+returns-clause-content c =
+    let old = content c.args.current.now in
+    let synced = content c.args.synced.now in
+    let n = c.max-length.result in
+    let mid = c.resize.new.slot in
+    let items = c.loop-place.byte-items in
+    let n-is : n ≡ max (length old) (length synced) = omega (arith, ap length c.content-file.ensures.is, ap length c.content.ensures.is) in
+    let long : length (content mid) ≡ n = ap length c.resize.ensures.content ∙ length_resized old n in
+    let fits : 37 + n ≤ length mid = omega (arith, long, content_within mid (omega arith)) in
+    let from = file_bytes mid n long fits in
+    let same : length items ≡ n = c.loop-place.auto.byte-items ∙ ap length from ∙ long in
+    let all : c.loop-place.place ≡ max (length old) (length synced) = omega (arith, n-is, same, c.loop-place.auto.byte-items) in
+    let before = take (37 + n - 37) (drop 37 mid) in
+    let mix : MixedBelow before synced (max (length old) (length synced)) items =
+    subst (λ (s : Bytes). MixedBelow before s (max (length old) (length synced)) items) c.content-file.ensures.is
+    (subst (λ (k : ℕ). MixedBelow before c.content-file.result.now k items) all c.loop-place.invariant) in
+    put_content mid n long fits items same
+    ∙ mixed_all before synced old items (from ∙ c.resize.ensures.content ∙ ap (resized old) n-is) mix (same ∙ n-is)
+
+pub returns-clause-name : goal.returns-clause-name
+returns-clause-name c =
+    let n = c.max-length.result in
+    let mid = c.resize.new.slot in
+    let long : length (content mid) ≡ n = ap length c.resize.ensures.content ∙ length_resized (content c.args.current.now) n in
+    let fits : 37 + n ≤ length mid = omega (arith, long, content_within mid (omega arith)) in
+    put_name mid n long fits c.loop-place.byte-items (c.loop-place.auto.byte-items ∙ ap length (file_bytes mid n long fits) ∙ long) ∙ c.resize.ensures.name

@@ -1,34 +1,17 @@
-use Rattle.std.proofs.Common.{length, Some, sym, refl, ap, ◌∙◌}
+use Rattle.std.proofs.Common.{rules, ◌≡◌, ◌<◌, ◌≤◌, length, Some, sym, subst}
 use Rattle.card.specs.Meaning.{Bytes}
-use Rattle.card.specs.Calls.{length_of, length_told}
-use Rattle.image.specs.Layout.{content, slot}
+use Rattle.image.specs.Layout.{slot, FirstSlot, named}
 use Rattle.image.proofs.Named.{named_parts}
-use Rattle.image.proofs.Files.{held_at, held_none, answer_at, answer_named, done_looked}
+use Rattle.image.proofs.Files.{told_length}
 use Rattle.image.proofs.slots.length.Goals as goal
 
-pub file_length-requires : goal.file_length-requires
-file_length-requires c =
-    let head = (named_parts c.args.name.now (slot c.args.image.now c.in-Some.k) c.in-Some.ensures.1).1 in
-    rw c.slot_at.ensures.is head
+pub map-requires : goal.map-requires
+map-requires c = λ k e.
+    let found : FirstSlot (named c.args.name.now) c.args.image.now (Some k) = subst (FirstSlot (named c.args.name.now) c.args.image.now) e c.find.ensures in
+    let in_image : k < 16 = found.0 in
+    let head : 37 ≤ length (slot c.args.image.now k) = (named_parts c.args.name.now (slot c.args.image.now k) found.1).1 in
+    let at : (s : Bytes) → s ≡ slot c.args.image.now k → 37 ≤ length s = λ s is. subst (λ (x : Bytes). 37 ≤ length x) (sym is) head in
+    search (rules, in_image, head, at)
 
-pub returns-in-Some : goal.returns-in-Some
-returns-in-Some c =
-    let image = c.args.image.now in
-    let n = c.args.name.now in
-    let found = c.in-Some.ensures in
-    record {
-      stored = record { answer = sym (answer_at image n length_of c.in-Some.k found); left = done_looked length_of n image refl (λ k. refl) };
-      told =
-          ap Some (c.file_length.ensures.is ∙ ap (λ (s : Bytes). length (content s)) c.slot_at.ensures.is)
-          ∙ sym (ap length_told (held_at image n c.in-Some.k found));
-    }
-
-pub returns-in-None : goal.returns-in-None
-returns-in-None c =
-    let image = c.args.image.now in
-    let n = c.args.name.now in
-    let none = c.in-None.ensures in
-    record {
-      stored = record { answer = sym (answer_named image n length_of none (sym c.is_name.ensures ∙ c.if-not-is_name.false)); left = done_looked length_of n image refl (λ k. refl) };
-      told = sym (ap length_told (held_none image n none));
-    }
+pub returns-clause-told : goal.returns-clause-told
+returns-clause-told c = told_length c.args.image.now c.args.name.now _ c.find.result c.map.result c.find.ensures c.map.ensures.cases (λ k l lt p. search rules)

@@ -1,6 +1,5 @@
-use Rattle.std.proofs.Common.{◌≡◌, ℕ, ◌+◌, ◌≤◌, false, leb, length, Option, sym, refl, ap, ◌∙◌, subst}
+use Rattle.std.proofs.Common.{◌≡◌, ℕ, ◌+◌, ◌-◌, false, leb, length, Option, sym, refl, ap, ◌∙◌, ap₂, arith}
 use Rattle.std.proofs.lemmas.Result.{err_from_is_err_and}
-use Rattle.std.proofs.lemmas.Bool.{leb-true}
 use Rattle.card.specs.Meaning.{Bytes}
 use Rattle.card.specs.Calls.{read, part_of, part}
 use Rattle.image.specs.Layout.{content, slot}
@@ -16,10 +15,10 @@ returns-in_err-k c =
     rw (p.1, p.2)
     (record { stored = refused op c.args.name.now c.args.image.now _ (answer_absent c.args.image.now c.args.name.now op _ why.0 why.1 refl); told = refl })
 
-pub file_length-requires : goal.file_length-requires
-file_length-requires c =
+pub content-file-requires : goal.content-file-requires
+content-file-requires c =
     let head = (named_parts c.args.name.now (slot c.args.image.now c.in_ok-k.k) c.in_ok-k.ensures.1).1 in
-    rw c.slot_at-slot.ensures.is head
+    rw c.slot_at.ensures.is head
 
 pub returns-then-not-ends_within : goal.returns-then-not-ends_within
 returns-then-not-ends_within c =
@@ -28,29 +27,25 @@ returns-then-not-ends_within c =
     let k = c.in_ok-k.k in
     let count = length c.args.buffer.now in
     let op = read c.args.place count in
-    let long : c.file_length.result ≡ length (content (slot image k)) = c.file_length.ensures.is ∙ ap (λ (s : Bytes). length (content s)) c.slot_at-slot.ensures.is in
+    let is : c.content-file.result.now ≡ content (slot image k) = c.content-file.ensures.is ∙ ap content c.slot_at.ensures.is in
     let out : leb (c.args.place + count) (length (content (slot image k))) ≡ false =
-    ap (λ (m : ℕ). leb (c.args.place + count) m) (sym long) ∙ sym c.ends_within.ensures ∙ c.if-not-ends_within.true in
+    ap (λ (b : Bytes). leb (c.args.place + count) (length b)) (sym is) ∙ sym c.ends_within.ensures ∙ c.if-not-ends_within.true in
     record { stored = refused op n image _ (answer_range image n op k _ c.in_ok-k.ensures refl out); told = refl }
-
-pub copy_out-requires : goal.copy_out-requires
-copy_out-requires c =
-    let head = (named_parts c.args.name.now (slot c.args.image.now c.in_ok-k.k) c.in_ok-k.ensures.1).1 in
-    let inside : c.args.place + length c.args.buffer.now ≤ c.file_length.result = leb-true _ _ (sym c.ends_within.ensures ∙ c.if-not-ends_within.false) in
-    record { head = rw c.slot_at-slot.ensures.is head; inside = subst (λ (m : ℕ). c.args.place + length c.args.buffer.now ≤ m) c.file_length.ensures.is inside }
 
 pub returns : goal.returns
 returns c =
     let image = c.args.image.now in
     let n = c.args.name.now in
     let k = c.in_ok-k.k in
+    let place = c.args.place in
     let count = length c.args.buffer.now in
-    let op = read c.args.place count in
-    let long : c.file_length.result ≡ length (content (slot image k)) = c.file_length.ensures.is ∙ ap (λ (s : Bytes). length (content s)) c.slot_at-slot.ensures.is in
-    let within = ap (λ (m : ℕ). leb (c.args.place + count) m) (sym long) ∙ sym c.ends_within.ensures ∙ c.if-not-ends_within.false in
+    let op = read place count in
+    let is : c.content-file.result.now ≡ content (slot image k) = c.content-file.ensures.is ∙ ap content c.slot_at.ensures.is in
+    let within = ap (λ (b : Bytes). leb (place + count) (length b)) (sym is) ∙ sym c.ends_within.ensures ∙ c.if-not-ends_within.false in
+    let size : place + count - place ≡ count = omega arith in
     record {
       stored = record { answer = sym (answer_room image n op k _ false c.in_ok-k.ensures refl within refl); left = done_looked op n image refl (λ m. refl) };
       told =
-          c.copy_out.ensures ∙ ap (λ (s : Bytes). part (content s) c.args.place count) c.slot_at-slot.ensures.is
-          ∙ sym (ap (λ (f : Option Bytes). part_of f c.args.place count) (held_at image n k c.in_ok-k.ensures));
+          c.copy_from_slice.ensures.after ∙ ap₂ (λ (b : Bytes) (m : ℕ). part b place m) is size
+          ∙ sym (ap (λ (f : Option Bytes). part_of f place count) (held_at image n k c.in_ok-k.ensures));
     }

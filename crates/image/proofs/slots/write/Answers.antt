@@ -17,8 +17,8 @@ returns-in_err-k c =
     let op = write c.args.place c.args.bytes.now in
     rw (p.1, p.2) (refused op c.args.name.now c.args.image.now _ (answer_absent c.args.image.now c.args.name.now op _ why.0 why.1 refl))
 
-pub file_length-requires : goal.file_length-requires
-file_length-requires c =
+pub content-requires : goal.content-requires
+content-requires c =
     let head = (named_parts c.args.name.now (slot c.args.image.now c.in_ok-k.k) c.in_ok-k.ensures.1).1 in
     rw c.slot_at.ensures.is head
 
@@ -31,7 +31,7 @@ returns-then-not-may_write c =
     let image = c.args.image.now in
     let bytes = c.args.bytes.now in
     let op = write c.args.place bytes in
-    let out = inside c.args.place c.file_length.result (c.args.place + length bytes) _ _ c.slot_at.ensures.is c.file_length.ensures.is _ c.may_write.ensures ∙ c.if-not-may_write.true in
+    let out = inside c.args.place (length c.content.result.now) (c.args.place + length bytes) _ _ c.slot_at.ensures.is (ap length c.content.ensures.is) _ c.may_write.ensures ∙ c.if-not-may_write.true in
     refused op c.args.name.now image _ (answer_range image c.args.name.now op c.in_ok-k.k _ c.in_ok-k.ensures refl out)
 
 pub returns-then-not-ends_within : goal.returns-then-not-ends_within
@@ -39,7 +39,7 @@ returns-then-not-ends_within c =
     let image = c.args.image.now in
     let bytes = c.args.bytes.now in
     let op = write c.args.place bytes in
-    let within = inside c.args.place c.file_length.result (c.args.place + length bytes) _ _ c.slot_at.ensures.is c.file_length.ensures.is _ c.may_write.ensures ∙ c.if-not-may_write.false in
+    let within = inside c.args.place (length c.content.result.now) (c.args.place + length bytes) _ _ c.slot_at.ensures.is (ap length c.content.ensures.is) _ c.may_write.ensures ∙ c.if-not-may_write.false in
     let over = leb-false (c.args.place + length bytes) c.room.result (sym c.ends_within.ensures ∙ c.if-not-ends_within.true) in
     let full = lt-ltb (room image) (c.args.place + length bytes) (omega (arith, over, c.room.ensures)) in
     refused op c.args.name.now image _ (sym (answer_room image c.args.name.now op c.in_ok-k.k _ true c.in_ok-k.ensures refl within full))
@@ -54,7 +54,7 @@ at_slot-requires c =
     let head = (named_parts c.args.name.now (slot image k) found.1).1 in
     let long = length_slot image k found.0 in
     let both = passed_both (leb place (length (content (slot image k)))) (leb (place + length bytes) file_limit)
-    (inside place c.file_length.result (place + length bytes) _ _ c.slot_at.ensures.is c.file_length.ensures.is _ c.may_write.ensures ∙ c.if-not-may_write.false) in
+    (inside place (length c.content.result.now) (place + length bytes) _ _ c.slot_at.ensures.is (ap length c.content.ensures.is) _ c.may_write.ensures ∙ c.if-not-may_write.false) in
     let under = leb-true (place + length bytes) c.room.result (sym c.ends_within.ensures ∙ c.if-not-ends_within.false) in
     let fits : 37 + place + length bytes ≤ length (slot image k) = omega (arith, c.room.ensures, under, head, long) in
     let limit = leb-true (place + length bytes) file_limit both.1 in
@@ -78,7 +78,7 @@ returns c =
     let found = c.in_ok-k.ensures in
     let done = c.at_slot.ensures in
     let new = done.0 in
-    let within = inside c.args.place c.file_length.result (c.args.place + length bytes) _ _ c.slot_at.ensures.is c.file_length.ensures.is _ c.may_write.ensures ∙ c.if-not-may_write.false in
+    let within = inside c.args.place (length c.content.result.now) (c.args.place + length bytes) _ _ c.slot_at.ensures.is (ap length c.content.ensures.is) _ c.may_write.ensures ∙ c.if-not-may_write.false in
     let under = leb-true (c.args.place + length bytes) c.room.result (sym c.ends_within.ensures ∙ c.if-not-ends_within.false) in
     let fits = le-ltb (room image) (c.args.place + length bytes) (omega (arith, under, c.room.ensures)) in
     let work : (content new ≡ overwrite (content (slot image k)) c.args.place bytes) × (take 33 new ≡ take 33 (slot image k)) = search (rules, done) in
