@@ -2,9 +2,13 @@
 // page. Beside them where a page lies in its file, and a set of pages as a map of 4,096 bits.
 #![tactic(auto)]
 
-ghost use Rattle.std.specs.Prelude.{◌≡◌, ℕ, ◌-◌, ◌*◌, ◌/◌, ◌%◌, ◌≤◌, true, false, length, if◌then◌else◌, MatchOption};
+ghost use Rattle.std.specs.Prelude.{◌≡◌, ℕ, ◌-◌, ◌*◌, ◌/◌, ◌%◌, ◌≤◌, true, false, length, if◌then◌else◌, MatchOption, IfSome};
 ghost use Rattle.page_map.specs.Sets.{is_page, including, without, counted, NoneAbove, NextAbove, VisitLaw};
 ghost use Rattle.page_map.specs.Words.{pages_of};
+
+mod pages;
+
+pub use pages::Pages;
 
 /// The most databases of a set.
 pub const DATABASES: usize = 4;
@@ -106,6 +110,7 @@ impl PageMap {
     /// visits each page of the map once and no other, in ascending order.
     pub fn next_above(&self, page: u32) -> Option<u32>
         ensures next { MatchOption result (NoneAbove (pages_of self.now.words) page) (λ p. NextAbove (pages_of self.now.words) page p) }
+        ensures within { IfSome result (λ p. p ≤ 4096) }
         ensures visit { VisitLaw (pages_of self.now.words) }
     {
         if page >= PAGE_LIMIT {

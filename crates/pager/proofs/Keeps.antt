@@ -15,12 +15,13 @@ use Rattle.pager.specs.declared.changed_page.ChangedPage.{ChangedPage}
 use Rattle.pager.specs.declared.changed_pages.ChangedPages.{ChangedPages}
 use Rattle.pager.specs.declared.saved_page.SavedPage.{SavedPage}
 use Rattle.pager.specs.declared.saved_pages.SavedPages.{SavedPages}
+use Rattle.pager.specs.declared.saved_page.Was.{Was}
 use Rattle.pager.specs.declared.refusal.Refusal.{Refusal}
 use Rattle.pager.specs.declared.refusal.Refusal.TheVariants.{NoDatabase, BufferLength, Page, ChangedFull, SavedFull}
 use Rattle.page_map.specs.Sets.{PageSet, including, is_page, total}
 use Rattle.page_map.specs.Words.{pages_of}
 use Rattle.pager.specs.Changed.{look, Whole, is_row}
-use Rattle.pager.specs.Saved.{has, has_from}
+use Rattle.pager.specs.Saved.{has, has_from, added}
 use Rattle.pager.specs.Sound.{Sound, map_of}
 use Rattle.pager.specs.View.{Fields, fields, page_allowed, to_save, write_refusal, was_of, saved_first}
 use Rattle.pager.proofs.Saves.{from_end}
@@ -172,3 +173,19 @@ sound_written f g levels d p bytes wrote inside is grown sound = record { link =
         ap (λ (l : List SavedPage). has_from (suc levels) l e q) more ∙ from_end (suc levels) f.saved _ e q
         ∙ ap₂ (λ (a b : Bool). a || b) (sound.below e q) (and_left _ _ (lt-leb (suc levels) levels (omega arith)))
     below e q (inr same) = ap (λ (l : List SavedPage). has_from (suc levels) l e q) same.0 ∙ sound.below e q
+
+-- a row that is added once is what the top savepoint has to save
+pub saved_added :
+    (m : Memory) (d p level : ℕ) (was : Was) → level ≡ length m.levels.items → was ≡ was_of (look (fields m).changed d p) (leb p (get_or m.sizes d 0)) →
+    added (fields m).saved (record { level = level; database = d; page = p; was = was }) ≡ saved_first m d p
+saved_added m d p level was top is =
+    ap₂ (λ (k : ℕ) (w : Was). added (fields m).saved (record { level = k; database = d; page = p; was = w })) top is
+    ∙ by (leb 1 (length m.levels.items)) (has (length m.levels.items) (fields m).saved d p)
+  where
+    new : SavedPage
+    new = record { level = length m.levels.items; database = d; page = p; was = was_of (look (fields m).changed d p) (leb p (get_or m.sizes d 0)) }
+
+    by : (a b : Bool) → cond a (cond b (fields m).saved ((fields m).saved ++ new ∷ [])) (fields m).saved ≡ cond (a && not b) ((fields m).saved ++ new ∷ []) (fields m).saved
+    by true true = refl
+    by true false = refl
+    by false b = refl

@@ -46,8 +46,11 @@ impl ChangedPages {
     pub fn get(&self, database: usize, page: u32) -> Option<&[u8; PAGE]>
         ensures { option_map (λ x. x.now) result ≡ look self.now.rows.items database page }
     {
-        let i = self.find(database, page)?;
-        Some(&self.rows.as_slice()[i].bytes)
+        self.rows
+            .as_slice()
+            .iter()
+            .find(|row| row.database == database && row.page == page)
+            .map(|row| &row.bytes)
     }
 
     /// Whether the store is full.

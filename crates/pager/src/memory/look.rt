@@ -1,8 +1,10 @@
 // Making a memory, clearing it, and looking at it.
-ghost use Rattle.std.specs.Prelude.{◌≡◌, ℕ, ◌*◌, ◌<◌, ◌≤◌, min, cond, List, [], length, is_some, Some, None, MatchOption, MatchResult, slice_index};
+ghost use Rattle.std.specs.Prelude.{◌≡◌, ℕ, ◌*◌, ◌<◌, ◌≤◌, min, true, List, [], All, length, is_some, Some, None, MatchOption, MatchResult, slice_index};
 ghost use Rattle.std.specs.Option.{option_map};
 ghost use Rattle.pager.specs.Changed.{look};
 ghost use Rattle.pager.specs.Machine.{cleared};
+ghost use Rattle.page_map.specs.Listed.{above};
+ghost use Rattle.page_map.specs.Walks.{left};
 ghost use Rattle.page_map.specs.Sets.{counted, NoneAbove, NextAbove, VisitLaw};
 ghost use Rattle.pager.specs.Sound.{map_of};
 ghost use Rattle.pager.specs.View.{view, fields, Stored, NoSuch};
@@ -12,7 +14,7 @@ use crate::memory::Memory;
 use crate::refusal::Refusal;
 use crate::saved_pages::SavedPages;
 use few::Few;
-use page_map::{DATABASES, PAGE, PageMap};
+use page_map::{DATABASES, PAGE, PageMap, Pages};
 
 impl Memory {
     /// The memory of a transaction on so many databases, at most four, of these sizes in pages:
@@ -93,6 +95,15 @@ impl Memory {
     {
         self.known(database)?;
         Ok(self.maps[database].next_above(page))
+    }
+
+    /// The changed pages of a database, in ascending order; none of a database that is not there.
+    pub fn changed_pages(&self, database: usize) -> Pages<'_>
+        ensures is { left result ≡ above (map_of self.now.maps database) 0 4096 }
+        ensures few { length (left result) ≤ 32 }
+        ensures held { All (λ p. is_some (look (fields self.now).changed database p) ≡ true) (left result) }
+    {
+        Pages::new(self.maps.get(database))
     }
 
     /// How many databases there are.
