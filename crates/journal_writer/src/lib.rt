@@ -9,4 +9,4 @@ mod writer;
 
 pub use filler::fill_journal;
 pub use stored::store_journal;
-pub use writer::{Refusal, put_bytes, put_count, put_header, put_name, put_record};
+pub use writer::{Refusal, put_bytes, put_count, put_header, put_name, put_record, room};
