@@ -5,7 +5,7 @@ ghost use Rattle.journal.specs.Laws.{JournalLaws};
 use crate::header::{is_spent, length_holds, read_header};
 use crate::layout::{SUPER_EXTRA, record_place};
 use crate::named::super_holds;
-use crate::records::first_wrong;
+use crate::records::Records;
 
 /// Where bytes lie in others.
 #[derive(Clone, Copy, PartialEq, Eq, Debug)]
@@ -51,7 +51,7 @@ pub fn judge(bytes: &[u8]) -> Verdict
     if !length_holds(bytes.len(), header.count) {
         return Verdict::Damaged { record: 0 };
     }
-    if let Some(index) = first_wrong(bytes, header) {
+    if let Some(index) = (Records { bytes, header }).first_wrong() {
         return Verdict::Damaged { record: index + 1 };
     }
     let end = record_place(header.count);
