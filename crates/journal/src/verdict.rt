@@ -14,6 +14,8 @@ pub struct Span {
     pub length: usize,
 }
 
+// Apart from the bytes: the parts are copied out of the call that reads the bytes into its caller's buffer, and a type
+// of both would serve one loop, in `settling`, alone.
 /// The parts of a sound journal; its page records are read in place. The numbers stand here and not as a header
 /// in a field: callers name each, and `sound.header.count` would be no plainer.
 #[derive(Clone, Copy, PartialEq, Eq, Debug)]
