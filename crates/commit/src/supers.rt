@@ -14,6 +14,7 @@ use journal::JOURNAL_LIMIT;
 use journal_writer::put_bytes;
 use names::{DATABASES, SUPER_JOURNAL};
 use refusal::{SetFault, Step};
+use set_files::delete_file;
 use steps::Site;
 
 // `put_names` of `super_journal` wants all names at once, as a list of slices; here each is made in its turn
@@ -29,17 +30,16 @@ fn put_ended(buffer: &mut [u8; JOURNAL_LIMIT], place: usize, name: &[u8]) -> usi
 }
 
 impl Work<'_> {
-    /// Fills the buffer with the names of the journals of the commit, and tells how long that is.
-    fn fill_super(&self, buffer: &mut [u8; JOURNAL_LIMIT]) -> usize
-        ensures few { result ≤ 17724 }
-        ensures filled { take result buffer.new ≡ names_bytes (journals self.now) }
+    /// Fills the buffer with the names of the journals of the commit, and tells these bytes.
+    fn fill_super<'b>(&self, buffer: &'b mut [u8; JOURNAL_LIMIT]) -> &'b [u8]
+        ensures { result.now ≡ names_bytes (journals self.now) }
     {
         let mut end = 0;
         for database in self.changed() {
             let journal = self.names.file(DATABASES + *database);
             end = put_ended(buffer, end, journal.bytes());
         }
-        end
+        &buffer[0..end]
     }
 
     /// Makes the super-journal, if two or more databases change.
@@ -53,28 +53,28 @@ impl Work<'_> {
         if !self.many() {
             return Ok(());
         }
-        let length = self.fill_super(buffer);
+        let bytes = self.fill_super(buffer);
         let file = self.names.file(SUPER_JOURNAL);
         let site = Site::new(Step::C1, SUPER_JOURNAL);
         site.create(card, file.bytes())?;
-        site.write(card, file.bytes(), 0, &buffer[0..length])?;
+        site.write(card, file.bytes(), 0, bytes)?;
         site.sync(card, file.bytes())
     }
 
-    /// Deletes the super-journal, or else the only journal: with that the commit counts.
+    /// Deletes the file whose deletion makes the commit count: the only journal, or else the super-journal.
     pub fn close<C: Card>(&self, card: &mut C) -> Result<(), SetFault>
         ensures { Went C.Card.meaning (if several self.now then call (files self.now) C4 8 deletes ∷ [] else for_each (λ d. call (files self.now) C4 (4 + d) deletes ∷ []) (listed self.now)) card.old result card.new }
     {
-        if !self.many() {
-            return self.delete_journals(card);
+        match self.changed() {
+            [] => Ok(()),
+            [database] => delete_file(card, self.names, Step::C4, DATABASES + *database),
+            _ => delete_file(card, self.names, Step::C4, SUPER_JOURNAL),
         }
-        let file = self.names.file(SUPER_JOURNAL);
-        Site::new(Step::C4, SUPER_JOURNAL).delete(card, file.bytes())
     }
 
-    /// Deletes each journal after the super-journal, going on after a refusal, and tells how many were
-    /// refused.
-    pub fn drop_journals<C: Card>(&self, card: &mut C) -> usize
+    /// Deletes each journal that became spent with the super-journal, going on after a refusal, and tells
+    /// how many were refused.
+    pub fn delete_spent_journals<C: Card>(&self, card: &mut C) -> usize
         ensures { Dropped C.Card.meaning (if several self.now then map (λ d. record { name = files self.now (4 + d); op = deletes }) (listed self.now) else []) card.old result card.new }
     {
         if !self.many() {

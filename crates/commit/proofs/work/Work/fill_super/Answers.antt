@@ -1,4 +1,5 @@
 use Rattle.std.proofs.Common.{◌≡◌, ℕ, ◌+◌, ◌≤◌, [], ◌∷◌, ◌++◌, get_or, length, take, sym, ap, ◌∙◌, subst, arith}
+use native.Mathlib.Nat.{sub-zero}
 use Rattle.card.specs.Meaning.{Bytes, Name}
 use Rattle.commit.specs.Works.{files}
 use Rattle.commit.proofs.Listing.{Listing, listing_none, listing_more, listing_all}
@@ -28,7 +29,5 @@ loop-database-preserved c =
 
 pub returns : goal.returns
 returns c =
-    record {
-      few = omega (arith, c.loop-database.invariant.few, c.changed-database-items.ensures.few);
-      filled = listing_all _ _ _ c.changed-database-items.ensures.is c.loop-database.database-index _ _ c.loop-database-test.false c.loop-database.invariant;
-    }
+    ap (λ (k : ℕ). take k c.loop-database.buffer) (sub-zero c.loop-database.end)
+    ∙ listing_all _ _ _ c.changed-database-items.ensures.is c.loop-database.database-index _ _ c.loop-database-test.false c.loop-database.invariant

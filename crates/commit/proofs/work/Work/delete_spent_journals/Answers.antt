@@ -4,7 +4,7 @@ use Rattle.card.specs.Calls.{Called, cause_of, delete}
 use Rattle.card.specs.Runs.{Act}
 use Rattle.commit.specs.Works.{files, several}
 use Rattle.commit.proofs.Trying.{dropped_none, trying_more, trying_all, ill, well}
-use Rattle.commit.proofs.work.Work.drop_journals.Goals as goal
+use Rattle.commit.proofs.work.Work.delete_spent_journals.Goals as goal
 
 pub returns-then-not-many : goal.returns-then-not-many
 returns-then-not-many g c =
