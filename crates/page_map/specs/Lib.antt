@@ -1,3 +1,4 @@
 pub mod Sets
 pub mod Words
 pub mod Listed
+pub mod Walks

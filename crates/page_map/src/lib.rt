@@ -1,10 +1,17 @@
-// The pages of a database: how long one is, how many there are at the most, and a set of them as a map
-// of 4,096 bits.
+// The limits of a set's databases stand here: how many databases, how many pages each, and how long a
+// page. Beside them where a page lies in its file, and a set of pages as a map of 4,096 bits.
 #![tactic(auto)]
 
-ghost use Rattle.std.specs.Prelude.{◌≡◌, ℕ, false, length, if◌then◌else◌, MatchOption};
+ghost use Rattle.std.specs.Prelude.{◌≡◌, ℕ, ◌-◌, ◌*◌, ◌/◌, ◌%◌, ◌≤◌, true, false, length, if◌then◌else◌, MatchOption, IfSome};
 ghost use Rattle.page_map.specs.Sets.{is_page, including, without, counted, NoneAbove, NextAbove, VisitLaw};
 ghost use Rattle.page_map.specs.Words.{pages_of};
+
+mod pages;
+
+pub use pages::Pages;
+
+/// The most databases of a set.
+pub const DATABASES: usize = 4;
 
 /// The bytes of a page.
 pub const PAGE: usize = 512;
@@ -23,6 +30,23 @@ pub fn is_page(page: u32) -> bool
     ensures { result ≡ is_page page }
 {
     (1..=PAGE_LIMIT).contains(&page)
+}
+
+/// Where a page begins in its file. For the crates of this repository: it wants a page that a database
+/// can have.
+pub fn page_place(page: u32) -> u32
+    requires some { 1 ≤ page }
+    requires small { page ≤ 4096 }
+    ensures { result ≡ (page - 1) * 512 }
+{
+    (page - 1) * PAGE as u32
+}
+
+/// The word of a map in which a page has its bit, and which bit; none for a page that no database can have.
+fn bit_of(page: u32) -> Option<(usize, u32)>
+    ensures { MatchOption result (is_page page ≡ false) (λ at. (is_page page ≡ true) × (at.0 ≡ (page - 1) / 64) × (at.1 ≡ (page - 1) % 64)) }
+{
+    is_page(page).then(|| (((page - 1) / BITS) as usize, (page - 1) % BITS))
 }
 
 /// How many bits of a map's words are 1.
@@ -51,20 +75,18 @@ impl PageMap {
     pub fn contains(&self, page: u32) -> bool
         ensures { result ≡ pages_of self.now.words page }
     {
-        if !is_page(page) {
+        let Some((word, bit)) = bit_of(page) else {
             return false;
-        }
-        let place = page - 1;
-        (self.words[(place / BITS) as usize] >> (place % BITS)) & 1 == 1
+        };
+        (self.words[word] >> bit) & 1 == 1
     }
 
     /// Puts the page in, if a database can have it.
     pub fn insert(&mut self, page: u32)
         ensures { (q : ℕ) → pages_of self.new.words q ≡ (if is_page page then including (pages_of self.old.words) page q else pages_of self.old.words q) }
     {
-        if is_page(page) {
-            let place = page - 1;
-            self.words[(place / BITS) as usize] |= 1 << (place % BITS);
+        if let Some((word, bit)) = bit_of(page) {
+            self.words[word] |= 1 << bit;
         }
     }
 
@@ -72,9 +94,8 @@ impl PageMap {
     pub fn remove(&mut self, page: u32)
         ensures { (q : ℕ) → pages_of self.new.words q ≡ without (pages_of self.old.words) page q }
     {
-        if is_page(page) {
-            let place = page - 1;
-            self.words[(place / BITS) as usize] &= !(1 << (place % BITS));
+        if let Some((word, bit)) = bit_of(page) {
+            self.words[word] &= !(1 << bit);
         }
     }
 
@@ -89,6 +110,7 @@ impl PageMap {
     /// visits each page of the map once and no other, in ascending order.
     pub fn next_above(&self, page: u32) -> Option<u32>
         ensures next { MatchOption result (NoneAbove (pages_of self.now.words) page) (λ p. NextAbove (pages_of self.now.words) page p) }
+        ensures within { IfSome result (λ p. p ≤ 4096) }
         ensures visit { VisitLaw (pages_of self.now.words) }
     {
         if page >= PAGE_LIMIT {

@@ -8,9 +8,10 @@ ghost use Rattle.journaling.specs.Plan.{write_tasks, call};
 ghost use Rattle.journaling.specs.Changes.{pages_held};
 
 use card::Card;
-use journal::{PAGE, PAGE_LIMIT};
+use journal::PAGE_LIMIT;
 use journaling::next_page;
 use names::Names;
+use page_map::page_place;
 use pager::Memory;
 use refusal::{SetFault, Step};
 use steps::Site;
@@ -31,7 +32,7 @@ pub fn write_pages<C: Card>(
     let mut last = 0;
     while let Some(page) = next_page(memory, database, last, PAGE_LIMIT) {
         let bytes = memory.get(database, page).unwrap();
-        site.write(card, file.bytes(), (page - 1) * PAGE as u32, bytes)?;
+        site.write(card, file.bytes(), page_place(page), bytes)?;
         last = page;
     }
     site.sync(card, file.bytes())

@@ -9,3 +9,4 @@ mod Stacks
 mod Fresh
 pub mod Counted
 pub mod Sizes
+mod Walks

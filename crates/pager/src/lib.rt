@@ -11,8 +11,8 @@ mod saved_pages;
 
 pub use changed_page::ChangedPage;
 pub use changed_pages::CHANGED_LIMIT;
-pub use memory::{DATABASES, Memory, SAVEPOINTS};
-pub use page_map::{PAGE_LIMIT, PageMap, is_page};
+pub use memory::{Memory, SAVEPOINTS};
+pub use page_map::{DATABASES, PAGE_LIMIT, PageMap, is_page};
 pub use refusal::Refusal;
 pub use saved_page::{SavedPage, Was};
 pub use saved_pages::SAVED_LIMIT;

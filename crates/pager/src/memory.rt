@@ -6,14 +6,11 @@ ghost use Rattle.pager.specs.Sound.{Sound};
 use crate::changed_pages::ChangedPages;
 use crate::saved_pages::SavedPages;
 use few::Few;
-use page_map::PageMap;
+use page_map::{DATABASES, PageMap};
 
 mod look;
 mod savepoint;
 mod write;
-
-/// The most databases of a transaction.
-pub const DATABASES: usize = 4;
 
 /// The most savepoints that stand at one time.
 pub const SAVEPOINTS: usize = 8;
@@ -22,11 +19,11 @@ pub const SAVEPOINTS: usize = 8;
 #[derive(Clone, Copy)]
 pub struct Memory {
     count: usize,
-    sizes: [u32; 4],
-    maps: [PageMap; 4],
+    sizes: [u32; DATABASES],
+    maps: [PageMap; DATABASES],
     changed: ChangedPages,
     saved: SavedPages,
-    levels: Few<[u32; 4], SAVEPOINTS>,
+    levels: Few<[u32; DATABASES], SAVEPOINTS>,
     ghost few: { count ≤ 4 },
     ghost low: { length levels.items ≤ 8 },
     ghost sound: { ∥ Sound maps changed.rows.items saved.rows.items (length levels.items) ∥₁ },

@@ -3,31 +3,33 @@ ghost use Rattle.std.specs.Prelude.{◌≡◌, ℕ, ◌*◌, ◌<◌, ◌≤◌,
 ghost use Rattle.std.specs.Option.{option_map};
 ghost use Rattle.pager.specs.Changed.{look};
 ghost use Rattle.pager.specs.Machine.{cleared};
+ghost use Rattle.page_map.specs.Listed.{above};
+ghost use Rattle.page_map.specs.Walks.{left};
 ghost use Rattle.page_map.specs.Sets.{counted, NoneAbove, NextAbove, VisitLaw};
 ghost use Rattle.pager.specs.Sound.{map_of};
 ghost use Rattle.pager.specs.View.{view, fields, Stored, NoSuch};
 
 use crate::changed_pages::ChangedPages;
-use crate::memory::{DATABASES, Memory};
+use crate::memory::Memory;
 use crate::refusal::Refusal;
 use crate::saved_pages::SavedPages;
 use few::Few;
-use page_map::{PAGE, PageMap};
+use page_map::{DATABASES, PAGE, PageMap, Pages};
 
 impl Memory {
     /// The memory of a transaction on so many databases, at most four, of these sizes in pages:
     /// nothing is changed, and no savepoint stands.
-    pub fn new(count: usize, sizes: [u32; 4]) -> Memory
+    pub fn new(count: usize, sizes: [u32; DATABASES]) -> Memory
         ensures count { result.count ≡ min count 4 }
         ensures sizes { result.sizes ≡ sizes }
         ensures empty { (result.changed.rows.items ≡ []) × (result.saved.rows.items ≡ []) }
         ensures view { (files : ℕ → List ℕ) → Stored files sizes → view files result ≡ cleared files }
     {
-        let levels = Few::new([0; 4]);
+        let levels = Few::new([0; DATABASES]);
         Memory {
             count: count.min(DATABASES),
             sizes,
-            maps: [PageMap::new(); 4],
+            maps: [PageMap::new(); DATABASES],
             changed: ChangedPages::new(),
             saved: SavedPages::new(),
             levels,
@@ -35,7 +37,7 @@ impl Memory {
     }
 
     /// Starts anew on databases of these sizes in pages: nothing is changed, and no savepoint stands.
-    pub fn clear(&mut self, sizes: [u32; 4])
+    pub fn clear(&mut self, sizes: [u32; DATABASES])
         ensures count { self.new.count ≡ self.old.count }
         ensures sizes { self.new.sizes ≡ sizes }
         ensures empty { (self.new.changed.rows.items ≡ []) × (self.new.saved.rows.items ≡ []) }
@@ -71,7 +73,7 @@ impl Memory {
     }
 
     /// The sizes of four databases, in pages.
-    pub fn sizes(&self) -> [u32; 4]
+    pub fn sizes(&self) -> [u32; DATABASES]
         ensures { result ≡ self.now.sizes }
     {
         self.sizes
@@ -93,6 +95,13 @@ impl Memory {
     {
         self.known(database)?;
         Ok(self.maps[database].next_above(page))
+    }
+
+    /// The changed pages of a database, in ascending order; none of a database that is not there.
+    pub fn changed_pages(&self, database: usize) -> Pages<'_>
+        ensures { left result ≡ above (map_of self.now.maps database) 0 4096 }
+    {
+        Pages::new(self.maps.get(database))
     }
 
     /// How many databases there are.
