@@ -1,19 +1,31 @@
 -- The parts of a lawful journal stand in its bytes where a sound verdict says.
-use Rattle.std.proofs.Common.{◌≡◌, ℕ, ◌+◌, ◌<◌, true, ◌++◌, length, take, drop, Some, None, Option, sym, refl, ap, ◌∙◌, ap₂, arith}
+use Rattle.std.proofs.Common.{◌≡◌, ℕ, ◌+◌, ◌*◌, ◌<◌, true, ◌++◌, length, take, drop, Some, None, Option, MatchOption, sym, refl, ap, ◌∙◌, subst, ap₂, arith}
 use Rattle.std.proofs.lemmas.List.{take_at, drop-drop}
 use Rattle.std.proofs.lemmas.Bool.{and_from, lt-ltb, le-leb}
 use Rattle.std.specs.List.{sum}
 use Rattle.card.specs.Meaning.{Bytes, Name}
 use Rattle.card.specs.Calls.{part}
 use Rattle.card.specs.Numbers.{number_at, number_bytes}
-use Rattle.journal.specs.Format.{Journal, record_of, super_bytes, magic}
-use Rattle.journal.specs.Judged.{name_span, record_place, page_of, page_bytes}
+use Rattle.journal.specs.Format.{Journal, LawfulJournal, full, record_of, super_bytes, magic}
+use Rattle.journal.specs.Judged.{Parts, name_span, record_place, page_of, page_bytes}
 use Rattle.journal.specs.Read.{Of, has_record, within}
 use Rattle.journal.specs.declared.verdict.Sound.{Sound as SoundParts}
 use Rattle.journal.specs.declared.verdict.Span.{Span}
 use Rattle.journal.proofs.Numbers.{number_part}
 use Rattle.journal.proofs.Pieces.{part_part}
 use Rattle.journal.proofs.Encoded.{length_encode, length_super, page_at, bytes_at, end_full}
+
+-- how long a journal is, by its parts and by what its super-journal's name takes
+pub length_named :
+    (s : SoundParts) (j : Journal) (k : ℕ) → LawfulJournal j → Parts s j → MatchOption s.name (k ≡ 0) (λ x. k ≡ x.length + 20) → 512 + 520 * s.count + k ≡ length (full j)
+unfolding super_bytes
+length_named s j k ok p h = by j.super (omega (arith, length_encode (length j.records) j ok, p.count)) (subst (λ (o : Option Span). MatchOption o (k ≡ 0) (λ x. k ≡ x.length + 20)) p.name h)
+  where
+    by :
+        (o : Option Name) → length (full j) ≡ 512 + 520 * s.count + length (super_bytes o) → MatchOption (name_span s.count o) (k ≡ 0) (λ x. k ≡ x.length + 20) →
+        512 + 520 * s.count + k ≡ length (full j)
+    by None long is = omega (arith, long, is)
+    by (Some n) long is = omega (arith, long, length_super n, is)
 
 module _ (b : Bytes) (s : SoundParts) (j : Journal) (of : Of b s j) where
   long : length b ≡ record_place (length j.records) + length (super_bytes j.super)

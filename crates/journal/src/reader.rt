@@ -1,16 +1,17 @@
 // The parts of a sound journal, read in place. Each call may be given any bytes: what is not in them is not told.
-ghost use Rattle.std.specs.Prelude.{◌≡◌, ℕ, ◌+◌, ◌*◌, ◌<◌, ◌≤◌, true, false, cond, Some, None, MatchOption};
+ghost use Rattle.std.specs.Prelude.{◌≡◌, ℕ, ◌+◌, ◌*◌, ◌<◌, ◌≤◌, true, false, cond, length as count_bytes, Some, None, MatchOption};
 ghost use Rattle.card.specs.Calls.{part};
-ghost use Rattle.journal.specs.Judged.{record_place as place_of, page_of, page_bytes};
+ghost use Rattle.journal.specs.Format.{Journal, LawfulJournal, full};
+ghost use Rattle.journal.specs.Judged.{Parts, record_place as place_of, page_of, page_bytes};
 ghost use Rattle.journal.specs.Read.{has_record, within, lying, NumberTold, PageTold, NameTold};
 
-use crate::layout::{RECORD, number, record_place};
+use crate::layout::{RECORD, SUPER_EXTRA, number, record_place};
 use crate::verdict::{Sound, Span};
 use page_map::PAGE;
 
 impl Span {
     /// What lies there, if the bytes have it.
-    fn of<'a>(&self, bytes: &'a [u8]) -> Option<&'a [u8]>
+    pub fn of<'a>(&self, bytes: &'a [u8]) -> Option<&'a [u8]>
         ensures { MatchOption result (within bytes.now self.now ≡ false) (λ p. (within bytes.now self.now ≡ true) × (p.now ≡ part bytes.now self.now.place self.now.length)) }
     {
         bytes.get(self.place..)?.get(..self.length)
@@ -18,6 +19,15 @@ impl Span {
 }
 
 impl Sound {
+    /// How many bytes the journal has. For the crates of this repository: it wants the parts of a lawful journal.
+    pub fn length(&self) -> usize
+        requires { (j : Journal) × LawfulJournal j × Parts self.now j }
+        ensures { (j : Journal) → LawfulJournal j → Parts self.now j → result ≡ count_bytes (full j) }
+    {
+        let named = self.name.map_or(0, |span| span.length + SUPER_EXTRA);
+        record_place(self.count) + named
+    }
+
     /// The record of an index, from 0, if the journal has it.
     fn record<'a>(&self, bytes: &'a [u8], index: u32) -> Option<&'a [u8; RECORD]>
         ensures { MatchOption result (has_record self.now bytes.now index ≡ false) (λ r. (has_record self.now bytes.now index ≡ true) × (r.now ≡ part bytes.now (place_of index) 520)) }

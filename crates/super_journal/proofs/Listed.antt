@@ -1,8 +1,8 @@
 -- Names in a list, tested and put one by one.
-use Rattle.std.proofs.Common.{◌≡◌, ℕ, Bool, true, false, MatchBool, Decides, zero, suc, ◌+◌, ◌*◌, ◌<◌, ◌≤◌, List, [], ◌∷◌, ◌++◌, length, get_or, take, sym, refl, ap, ◌∙◌, subst, append_assoc, arith, length-append, Bor}
+use Rattle.std.proofs.Common.{◌≡◌, ℕ, Bool, true, false, MatchBool, Decides, zero, suc, ◌+◌, ◌*◌, ◌<◌, ◌≤◌, List, [], ◌∷◌, ◌++◌, length, get_or, take, drop, sym, refl, ap, ◌∙◌, subst, append_assoc, arith, length-append, length-take, Bor}
 use Rattle.std.specs.List.{AllByRecursion, AllWithin, HoldsAt, sum_by}
 use Rattle.std.proofs.lemmas.List.Sums.{sum_by-cons}
-use Rattle.std.proofs.lemmas.List.{take_more}
+use Rattle.std.proofs.lemmas.List.{take_more, take_at}
 use Rattle.std.proofs.lemmas.Bool.{false≢true}
 use Rattle.card.specs.Meaning.{Bytes, Name}
 use Rattle.card.specs.Calls.{overwrite}
@@ -77,15 +77,13 @@ unfolding super_journal_bytes
 filled_none s = refl
 
 pub filled_more :
-    (s t u v : Bytes) (ns : List Name) (k : ℕ) → k < length ns → length (super_journal_bytes ns) ≤ length s → t ≡ overwrite s 0 (super_journal_bytes (take k ns)) →
-    (at : ℕ) → at ≡ length (super_journal_bytes (take k ns)) → u ≡ overwrite t at (get_or ns k []) → v ≡ overwrite u (at + length (get_or ns k [])) (0 ∷ []) → v ≡ overwrite s 0 (super_journal_bytes (take (k + 1) ns))
-filled_more s t u v ns k lt room e at is eu ev =
-    ev ∙ ap (λ (x : Bytes). overwrite x (at + length n) (0 ∷ [])) (eu ∙ ap (λ (x : Bytes). overwrite x at n) e ∙ overwrite_append s 0 front n at (omega (arith, is)) (omega (arith, is, below, step)))
-    ∙ overwrite_append s 0 (front ++ n) (0 ∷ []) (at + length n) (omega (arith, is, length-append front n)) (omega (arith, is, below, step))
-    ∙ ap (overwrite s 0) (append_assoc front n (0 ∷ []) ∙ sym (super_more ns k lt))
+    (s t u : Bytes) (ns : List Name) (k : ℕ) → k < length ns → length (super_journal_bytes ns) ≤ length s → t ≡ overwrite s 0 (super_journal_bytes (take k ns)) →
+    (at : ℕ) → at ≡ length (super_journal_bytes (take k ns)) → u ≡ overwrite t at (get_or ns k [] ++ (0 ∷ [])) → u ≡ overwrite s 0 (super_journal_bytes (take (k + 1) ns))
+filled_more s t u ns k lt room e at is put =
+    put ∙ ap (λ (x : Bytes). overwrite x at n) e ∙ overwrite_append s 0 front n at (omega (arith, is)) (omega (arith, is, below, step)) ∙ ap (overwrite s 0) (sym (super_more ns k lt))
   where
-    n : Name
-    n = get_or ns k []
+    n : Bytes
+    n = get_or ns k [] ++ (0 ∷ [])
 
     front : Bytes
     front = super_journal_bytes (take k ns)
@@ -93,5 +91,17 @@ filled_more s t u v ns k lt room e at is eu ev =
     below : length (super_journal_bytes (take (k + 1) ns)) ≤ length (super_journal_bytes ns)
     below = length_front ns (k + 1)
 
-    step : length (super_journal_bytes (take (k + 1) ns)) ≡ length front + (length n + 1)
+    step : length (super_journal_bytes (take (k + 1) ns)) ≡ length front + (length (get_or ns k []) + 1)
     step = length_more ns k lt
+
+-- what stands up to the end of bytes put over others
+pub overwrite_front : (s x : Bytes) (p q : ℕ) → p + length x ≡ q → p ≤ length s → take q (overwrite s p x) ≡ take p s ++ x
+overwrite_front s x p q e h = ap (take q) (sym (append_assoc (take p s) x rest)) ∙ take_at (take p s ++ x) rest q (length-append (take p s) x ∙ omega (arith, length-take p s))
+  where
+    rest : Bytes
+    rest = drop (p + length x) s
+
+-- a name put with the zero byte that ends it
+pub ended_put : (s t u : Bytes) (p : ℕ) (n : Name) → p + length n + 1 ≤ length s → t ≡ overwrite s p n → u ≡ overwrite t (p + length n) (0 ∷ []) → u ≡ overwrite s p (n ++ (0 ∷ []))
+ended_put s t u p n room first second =
+    second ∙ ap (λ (x : Bytes). overwrite x (p + length n) (0 ∷ [])) first ∙ overwrite_append s p n (0 ∷ []) (p + length n) refl (omega arith)

@@ -5,4 +5,4 @@ mod reader;
 mod writer;
 
 pub use reader::{NAME_COUNT_LIMIT, SuperNames, read_names};
-pub use writer::put_names;
+pub use writer::{put_ended, put_names};

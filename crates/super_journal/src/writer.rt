@@ -1,5 +1,5 @@
 // The super-journal file, put into a caller's buffer.
-ghost use Rattle.std.specs.Prelude.{◌≡◌, ℕ, ◌+◌, ◌*◌, ◌<◌, ◌≤◌, ◌^◌, sum_by, length as count_of, Decides};
+ghost use Rattle.std.specs.Prelude.{◌≡◌, ℕ, ◌+◌, ◌*◌, ◌<◌, ◌≤◌, ◌^◌, sum_by, [], ◌∷◌, ◌++◌, take, length as count_of, Decides};
 ghost use Rattle.card.specs.Calls.{overwrite};
 ghost use Rattle.super_journal.specs.Super.{super_journal_bytes as names_bytes, LawfulNames, Plain};
 ghost use Rattle.super_journal.specs.Written.{Named, texts};
@@ -29,17 +29,29 @@ fn names_length(names: &[&[u8]]) -> usize
     names.iter().map(|name| name.len() + 1).sum()
 }
 
+/// Puts a name at a place, with the zero byte that ends it, and tells where it ends. For the crates of this
+/// repository: it wants the room.
+pub fn put_ended(buffer: &mut [u8], place: usize, name: &[u8]) -> usize
+    requires { place + count_of name.now + 1 ≤ count_of buffer.old }
+    ensures end { result ≡ place + count_of name.now + 1 }
+    ensures put { buffer.new ≡ overwrite buffer.old place (name.now ++ (0 ∷ [])) }
+    ensures front { take result buffer.new ≡ take place buffer.old ++ (name.now ++ (0 ∷ [])) }
+{
+    let end = place + name.len();
+    put_bytes(buffer, place, name);
+    put_bytes(buffer, end, &[0u8]);
+    end + 1
+}
+
 /// Puts the names at the start of the buffer, each with a zero byte after it.
 fn fill_names(buffer: &mut [u8], names: &[&[u8]])
     requires names { LawfulNames (texts names.now) }
     requires room { count_of (names_bytes (texts names.now)) ≤ count_of buffer.old }
     ensures { buffer.new ≡ overwrite buffer.old 0 (names_bytes (texts names.now)) }
 {
-    let mut at = 0;
+    let mut end = 0;
     for name in names {
-        put_bytes(buffer, at, name);
-        put_bytes(buffer, at + name.len(), &[0u8]);
-        at += name.len() + 1;
+        end = put_ended(buffer, end, name);
     }
 }
 

@@ -6,4 +6,4 @@ use Rattle.super_journal.proofs.writer.fill_names.Given as goal
 
 abbrev pub invariant-loop-name : goal.invariant-loop-name
 invariant-loop-name l =
-    (l.buffer ≡ overwrite l.initial.buffer 0 (super_journal_bytes (take l.name-index (texts l.names)))) × (l.at ≡ length (super_journal_bytes (take l.name-index (texts l.names))))
+    (l.buffer ≡ overwrite l.initial.buffer 0 (super_journal_bytes (take l.name-index (texts l.names)))) × (l.end ≡ length (super_journal_bytes (take l.name-index (texts l.names))))
