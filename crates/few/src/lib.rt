@@ -1,4 +1,5 @@
-// Up to so many values in fixed memory.
+// Up to so many values in fixed memory. It is not the library's `arrayvec`, since that is not `Copy`: names of
+// files and the memory of a transaction are copied as a whole.
 #![tactic(auto)]
 
 ghost use Rattle.std.specs.Prelude.{◌≡◌, ℕ, ◌+◌, ◌<◌, ◌≤◌, List, [], ◌∷◌, ◌++◌, length as count, take, drop, ◌==◌, slice_set};
@@ -43,6 +44,17 @@ impl<T: Copy, const N: usize> Few<T, N> {
         }
     }
 
+    /// These values. The places that wait for one have the blank. For the crates of this repository: it
+    /// wants room for all of them.
+    pub fn from_slice(values: &[T], blank: T) -> Few<T, N>
+        requires { count values.now ≤ N }
+        ensures { result.items ≡ values.now }
+    {
+        let mut few = Few::new(blank);
+        few.extend_from_slice(values);
+        few
+    }
+
     /// The values.
     pub fn as_slice(&self) -> &[T]
         ensures is { result.now ≡ self.now.items }
@@ -81,9 +93,10 @@ impl<T: Copy, const N: usize> Few<T, N> {
         requires { count self.old.items + count values.now ≤ N }
         ensures { self.new.items ≡ self.old.items ++ values.now }
     {
-        for value in values {
-            self.push(*value);
-        }
+        let end = self.used + values.len();
+        let all = &mut self.rows[..];
+        all[self.used..end].copy_from_slice(values);
+        self.used = end;
     }
 
     /// Puts a value in the place of another. For the crates of this repository: it wants that place.

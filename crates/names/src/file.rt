@@ -1,14 +1,25 @@
 // The files of a list of databases, by their numbers.
-ghost use Rattle.std.specs.Prelude.{◌≡◌, ◌≤◌, false, MatchOption};
+ghost use Rattle.std.specs.Prelude.{◌≡◌, ◌+◌, ◌<◌, ◌≤◌, false, MatchOption};
 ghost use Rattle.names.specs.Names.{is_file};
 ghost use Rattle.names.specs.Numbered.{Numbered};
 
-use crate::names::DATABASES;
+use page_map::DATABASES;
 
 /// The number of the super-journal among the files.
-pub const SUPER_JOURNAL: usize = 8;
+pub const SUPER_JOURNAL: usize = 2 * DATABASES;
+
+/// The number of a database's journal among the files. For the crates of this repository: it wants a
+/// database below four.
+pub fn journal_of(database: usize) -> usize
+    requires { database < 4 }
+    ensures { result ≡ 4 + database }
+{
+    DATABASES + database
+}
 
 /// A file that goes with a list of databases.
+// For this crate alone: above it files go by number, since public calls take any number, and a file is told
+// by its number, a rule of the project (docs/REFUSALS.md).
 #[derive(Clone, Copy)]
 pub(crate) enum File {
     /// A database: which one.

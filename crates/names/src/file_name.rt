@@ -1,12 +1,14 @@
 // The name of one file: a database, its journal, or the super-journal.
 ghost use Rattle.std.specs.Prelude.{◌≡◌, ◌+◌, ◌≤◌, ◌++◌, length as count};
 
+use card::NAME_LIMIT;
 use few::Few;
 
 /// A file's name, of up to 32 bytes.
+// `short` is a fact of its own here, since what a contract sees of a `Few` leaves out how many fit.
 #[derive(Clone, Copy)]
 pub struct FileName {
-    bytes: Few<u8, 32>,
+    bytes: Few<u8, NAME_LIMIT>,
     ghost short: { count bytes.items ≤ 32 },
 }
 
@@ -16,8 +18,7 @@ impl FileName {
         requires { count name.now + count ending.now ≤ 32 }
         ensures { result.bytes.items ≡ name.now ++ ending.now }
     {
-        let mut bytes = Few::new(0);
-        bytes.extend_from_slice(name);
+        let mut bytes = Few::from_slice(name, 0);
         bytes.extend_from_slice(ending);
         FileName { bytes }
     }

@@ -7,18 +7,26 @@ mod files;
 
 pub use checks::checked;
 use few::Few;
+use page_map::DATABASES;
 
-/// The most databases of a list.
-pub const DATABASES: usize = 4;
+/// The most bytes of a database's name.
+const NAME_LIMIT: usize = 24;
+
+/// A list of names in fixed memory: 1 to 4.
+// `few` is a fact of its own here, since what a contract sees of a `Few` leaves out how many fit.
+#[derive(Clone, Copy)]
+pub(crate) struct NameList {
+    names: Few<Few<u8, NAME_LIMIT>, DATABASES>,
+    ghost some: { 1 ≤ count (held names.items) },
+    ghost few: { count (held names.items) ≤ 4 },
+}
 
 /// A list of names that was checked: 1 to 4 names of 1 to 24 printable bytes, and the names of all
 /// files that go with them differ.
 #[derive(Clone, Copy)]
 pub struct Names {
-    list: Few<Few<u8, 24>, 4>,
-    ghost some: { 1 ≤ count (held list.items) },
-    ghost few: { count (held list.items) ≤ 4 },
-    ghost short: { ∥ Each length_ok (held list.items) ∥₁ },
-    ghost plain: { ∥ Each bytes_ok (held list.items) ∥₁ },
-    ghost apart: { ∥ Apart (held list.items) ∥₁ },
+    list: NameList,
+    ghost short: { ∥ Each length_ok (held list.names.items) ∥₁ },
+    ghost plain: { ∥ Each bytes_ok (held list.names.items) ∥₁ },
+    ghost apart: { ∥ Apart (held list.names.items) ∥₁ },
 }

@@ -30,9 +30,7 @@ fn listing(numbers: &[u32]) -> Option<Few<u32, TROUBLES>>
     if numbers.len() > TROUBLES {
         return None;
     }
-    let mut given = Few::new(0);
-    given.extend_from_slice(numbers);
-    Some(given)
+    Some(Few::from_slice(numbers, 0))
 }
 
 impl<C> TroubleLayer<C> {

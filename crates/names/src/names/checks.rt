@@ -1,19 +1,17 @@
 // The tests of a list of names.
 ghost use Rattle.std.specs.Prelude.{◌≡◌, ℕ, ◌≤◌, true, length as count, Decides, MatchOption, MatchResult};
-ghost use Rattle.names.specs.Names.{Each, length_ok, printable, bytes_ok, is_file, file_name, Alike, listed, held, texts};
-ghost use Rattle.names.specs.Files.{names_of};
+ghost use Rattle.names.specs.Names.{Each, length_ok, printable, bytes_ok, is_file, file_name, Alike, listed, texts};
+ghost use Rattle.names.specs.Files.{names_in, names_of};
 ghost use Rattle.names.specs.Refused.{Refused, Checked, FirstBad};
 
+use crate::file::SUPER_JOURNAL;
 use crate::list_refusal::ListRefusal;
-use crate::names::files::name_of;
-use crate::names::{DATABASES, Names};
+use crate::names::{NAME_LIMIT, NameList, Names};
 use few::Few;
-
-/// The most bytes of a database's name.
-const NAME_LIMIT: usize = 24;
+use page_map::DATABASES;
 
 /// The files of four databases: the databases, their journals, the super-journal.
-const FILES: usize = 9;
+const FILES: usize = SUPER_JOURNAL + 1;
 
 /// Whether a name has 1 to 24 bytes.
 fn is_short(name: &[u8]) -> bool
@@ -50,49 +48,44 @@ fn first_odd(list: &[&[u8]]) -> Option<usize>
     list.iter().position(|name| !is_plain(name))
 }
 
-/// Whether there are two such files and they have one name.
-fn are_alike(list: &[Few<u8, 24>], one: usize, other: usize) -> bool
-    requires some { 1 ≤ count (held list.now) }
-    requires few { count (held list.now) ≤ 4 }
-    ensures { Decides result ((is_file (count (held list.now)) one ≡ true) × (is_file (count (held list.now)) other ≡ true) × (file_name (listed (held list.now)) one ≡ file_name (listed (held list.now)) other)) }
-{
-    let (Some(a), Some(b)) = (name_of(list, one), name_of(list, other)) else {
-        return false;
-    };
-    a.bytes() == b.bytes()
-}
-
-/// Whether an earlier file has the name of this one.
-fn is_taken(list: &[Few<u8, 24>], file: usize) -> bool
-    requires some { 1 ≤ count (held list.now) }
-    requires few { count (held list.now) ≤ 4 }
-    ensures { Decides result ((j : ℕ) × Alike (held list.now) j file) }
-{
-    (0..file).any(|j| are_alike(list, j, file))
-}
-
-/// Whether any two files have one name.
-fn has_twins(list: &[Few<u8, 24>]) -> bool
-    requires some { 1 ≤ count (held list.now) }
-    requires few { count (held list.now) ≤ 4 }
-    ensures { Decides result ((j : ℕ) × ((k : ℕ) × Alike (held list.now) j k)) }
-{
-    (0..FILES).any(|k| is_taken(list, k))
-}
-
-/// The names in fixed memory.
-fn copied(list: &[&[u8]]) -> Few<Few<u8, 24>, 4>
-    requires few { count list.now ≤ 4 }
-    requires short { Each length_ok (texts list.now) }
-    ensures { held result.items ≡ texts list.now }
-{
-    let mut names = Few::new(Few::new(0));
-    for name in list {
-        let mut row = Few::new(0);
-        row.extend_from_slice(name);
-        names.push(row);
+impl NameList {
+    /// The names in fixed memory.
+    fn copied(list: &[&[u8]]) -> NameList
+        requires some { 1 ≤ count list.now }
+        requires few { count list.now ≤ 4 }
+        requires short { Each length_ok (texts list.now) }
+        ensures { names_in result ≡ texts list.now }
+    {
+        let mut names = Few::new(Few::new(0));
+        for name in list {
+            names.push(Few::from_slice(name, 0));
+        }
+        NameList { names }
     }
-    names
+
+    /// Whether there are two such files and they have one name.
+    fn are_alike(&self, one: usize, other: usize) -> bool
+        ensures { Decides result ((is_file (count (names_in self.now)) one ≡ true) × (is_file (count (names_in self.now)) other ≡ true) × (file_name (listed (names_in self.now)) one ≡ file_name (listed (names_in self.now)) other)) }
+    {
+        let (Some(a), Some(b)) = (self.name_of(one), self.name_of(other)) else {
+            return false;
+        };
+        a.bytes() == b.bytes()
+    }
+
+    /// Whether an earlier file has the name of this one.
+    fn is_taken(&self, file: usize) -> bool
+        ensures { Decides result ((j : ℕ) × Alike (names_in self.now) j file) }
+    {
+        (0..file).any(|j| self.are_alike(j, file))
+    }
+
+    /// Whether any two files have one name.
+    fn has_twins(&self) -> bool
+        ensures { Decides result ((j : ℕ) × ((k : ℕ) × Alike (names_in self.now) j k)) }
+    {
+        (0..FILES).any(|k| self.is_taken(k))
+    }
 }
 
 /// Checks a list of names. The tests go in the order of their numbers: the count, each name's
@@ -109,9 +102,9 @@ pub fn checked(list: &[&[u8]]) -> Result<Names, ListRefusal>
     if let Some(i) = first_odd(list) {
         return Err(ListRefusal::Byte(i));
     }
-    let names = copied(list);
-    if has_twins(names.as_slice()) {
+    let list = NameList::copied(list);
+    if list.has_twins() {
         return Err(ListRefusal::Equal);
     }
-    Ok(Names { list: names })
+    Ok(Names { list })
 }

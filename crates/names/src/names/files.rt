@@ -1,13 +1,12 @@
 // The names of the files of a list, by number.
 ghost use Rattle.std.specs.Prelude.{◌≡◌, ◌<◌, ◌≤◌, ◌++◌, length as count, if◌then◌else◌, true, false, Some, None, Decides, MatchOption, nat_lt};
 ghost use Rattle.std.specs.Option.{option_map};
-ghost use Rattle.names.specs.Names.{journal_ending, super_ending, listed, held, is_file, file_name, JournalOf};
-ghost use Rattle.names.specs.Files.{names_of, file_of, how_many};
+ghost use Rattle.names.specs.Names.{journal_ending, super_ending, listed, is_file, file_name, JournalOf};
+ghost use Rattle.names.specs.Files.{names_in, names_of, file_of, how_many};
 
-use crate::file::{File, SUPER_JOURNAL};
+use crate::file::{File, SUPER_JOURNAL, journal_of};
 use crate::file_name::FileName;
-use crate::names::{DATABASES, Names};
-use few::Few;
+use crate::names::{NameList, Names};
 
 /// What the name of a journal ends with.
 const JOURNAL_ENDING: [u8; 8] = *b"-journal";
@@ -15,16 +14,17 @@ const JOURNAL_ENDING: [u8; 8] = *b"-journal";
 /// What the name of a super-journal ends with.
 const SUPER_ENDING: [u8; 3] = *b"-mj";
 
-/// The name of the file of that number, if the list has such a file.
-pub(crate) fn name_of(list: &[Few<u8, 24>], number: usize) -> Option<FileName>
-    requires some { 1 ≤ count (held list.now) }
-    requires few { count (held list.now) ≤ 4 }
-    ensures { MatchOption result (is_file (count (held list.now)) number ≡ false) (λ f. (is_file (count (held list.now)) number ≡ true) × (f.bytes.items ≡ file_name (listed (held list.now)) number)) }
-{
-    match File::numbered(list.len(), number)? {
-        File::Database(i) => Some(FileName::ending(list[i].as_slice(), &[])),
-        File::Journal(i) => Some(FileName::ending(list[i].as_slice(), &JOURNAL_ENDING)),
-        File::SuperJournal => Some(FileName::ending(list[0].as_slice(), &SUPER_ENDING)),
+impl NameList {
+    /// The name of the file of that number, if the list has such a file.
+    pub(crate) fn name_of(&self, number: usize) -> Option<FileName>
+        ensures { MatchOption result (is_file (count (names_in self.now)) number ≡ false) (λ f. (is_file (count (names_in self.now)) number ≡ true) × (f.bytes.items ≡ file_name (listed (names_in self.now)) number)) }
+    {
+        let names = self.names.as_slice();
+        match File::numbered(names.len(), number)? {
+            File::Database(i) => Some(FileName::ending(names[i].as_slice(), &[])),
+            File::Journal(i) => Some(FileName::ending(names[i].as_slice(), &JOURNAL_ENDING)),
+            File::SuperJournal => Some(FileName::ending(names[0].as_slice(), &SUPER_ENDING)),
+        }
     }
 }
 
@@ -33,21 +33,21 @@ impl Names {
     pub fn count(&self) -> usize
         ensures { result ≡ how_many self.now }
     {
-        self.list.len()
+        self.list.names.len()
     }
 
     /// The name of a database.
     pub fn database(&self, i: usize) -> Option<&[u8]>
         ensures { option_map (λ x. x.now) result ≡ (if nat_lt i (how_many self.now) then Some (listed (names_of self.now) i) else None) }
     {
-        Some(self.list.as_slice().get(i)?.as_slice())
+        Some(self.list.names.as_slice().get(i)?.as_slice())
     }
 
     /// The name of a database's journal.
     pub fn journal(&self, i: usize) -> Option<FileName>
         ensures { MatchOption result (how_many self.now ≤ i) (λ f. (i < how_many self.now) × (f.bytes.items ≡ listed (names_of self.now) i ++ journal_ending)) }
     {
-        let name = self.list.as_slice().get(i)?;
+        let name = self.list.names.as_slice().get(i)?;
         Some(FileName::ending(name.as_slice(), &JOURNAL_ENDING))
     }
 
@@ -57,14 +57,16 @@ impl Names {
     pub fn file(&self, file: usize) -> FileName
         ensures { result.bytes.items ≡ file_of self.now file }
     {
-        name_of(self.list.as_slice(), file).unwrap_or(FileName::ending(&[], &[]))
+        self.list
+            .name_of(file)
+            .unwrap_or(FileName::ending(&[], &[]))
     }
 
     /// Whether the name is that of a journal of the list.
     pub fn is_journal(&self, name: &[u8]) -> bool
         ensures { Decides result (JournalOf (names_of self.now) name.now) }
     {
-        (0..self.count()).any(|i| self.file(DATABASES + i).bytes() == name)
+        (0..self.count()).any(|i| self.file(journal_of(i)).bytes() == name)
     }
 
     /// The name of the super-journal.

@@ -7,4 +7,4 @@ use Rattle.names.proofs.names.Names.file.Goals as goal
 pub returns : goal.returns
 returns c =
     ap (λ (f : FileName). f.bytes.items) c.unwrap_or.ensures
-    ∙ named_or (names_of c.args.self.now) c.args.file c.name_of.result c.ending.result c.ending.ensures (rw c.as_slice.ensures.is at c.name_of.ensures)
+    ∙ named_or (names_of c.args.self.now) c.args.file c.name_of.result c.ending.result c.ending.ensures c.name_of.ensures

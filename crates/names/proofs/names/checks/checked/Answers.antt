@@ -7,12 +7,10 @@ use Rattle.names.proofs.names.checks.checked.Goals as goal
 pub invariant_of-result : goal.invariant_of-result
 invariant_of-result c =
     let list = c.args.list.now in
-    let e = c.copied-names.ensures in
+    let e = c.copied-list.ensures in
     let n = ap length e ∙ length_texts list in
     record {
-      some = omega arith;
-      few = omega arith;
       short = ∣ subst (λ ws. Each length_ok ws) (sym e) c.in_default.ensures ∣₁;
       plain = ∣ subst (λ ws. Each bytes_ok ws) (sym e) c.in_default-first_odd.ensures ∣₁;
-      apart = ∣ (λ j k twins. not_from_Decides _ c.has_twins.ensures c.if-has_twins.false (rw c.as_slice.ensures.is (j, (k, twins)))) ∣₁;
+      apart = ∣ (λ j k twins. not_from_Decides _ c.has_twins.ensures c.if-has_twins.false (j, (k, twins))) ∣₁;
     }
