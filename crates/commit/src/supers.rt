@@ -1,5 +1,5 @@
 // The super-journal of a commit: made before the journals, and deleted when all databases are safe.
-ghost use Rattle.std.specs.Prelude.{◌≡◌, ◌+◌, ◌≤◌, [], ◌∷◌, ◌++◌, map, length as count_of, take, if◌then◌else◌};
+ghost use Rattle.std.specs.Prelude.{◌≡◌, ◌+◌, [], ◌∷◌, map, if◌then◌else◌};
 ghost use Rattle.card.specs.Calls.Op.{delete as deletes};
 ghost use Rattle.super_journal.specs.Super.{super_journal_bytes as names_bytes};
 ghost use Rattle.refusal.specs.declared.step.Step.TheVariants.{C4};
@@ -11,23 +11,11 @@ ghost use Rattle.commit.specs.Works.{files, listed, journals, several};
 use crate::work::Work;
 use card::Card;
 use journal::JOURNAL_LIMIT;
-use journal_writer::put_bytes;
-use names::{DATABASES, SUPER_JOURNAL};
+use names::{SUPER_JOURNAL, journal_of};
 use refusal::{SetFault, Step};
 use set_files::delete_file;
 use steps::Site;
-
-// `put_names` of `super_journal` wants all names at once, as a list of slices; here each is made in its turn
-/// Puts a name into the buffer at a place, with the zero byte that ends it, and tells where it ends.
-fn put_ended(buffer: &mut [u8; JOURNAL_LIMIT], place: usize, name: &[u8]) -> usize
-    requires { place + count_of name.now + 1 ≤ 17724 }
-    ensures end { result ≡ place + count_of name.now + 1 }
-    ensures put { take result buffer.new ≡ take place buffer.old ++ (name.now ++ (0 ∷ [])) }
-{
-    put_bytes(buffer, place, name);
-    put_bytes(buffer, place + name.len(), &[0u8]);
-    place + name.len() + 1
-}
+use super_journal::put_ended;
 
 impl Work<'_> {
     /// Fills the buffer with the names of the journals of the commit, and tells these bytes.
@@ -36,7 +24,7 @@ impl Work<'_> {
     {
         let mut end = 0;
         for database in self.changed() {
-            let journal = self.names.file(DATABASES + *database);
+            let journal = self.names.file(journal_of(*database));
             end = put_ended(buffer, end, journal.bytes());
         }
         &buffer[0..end]
@@ -67,7 +55,7 @@ impl Work<'_> {
     {
         match self.changed() {
             [] => Ok(()),
-            [database] => delete_file(card, self.names, Step::C4, DATABASES + *database),
+            [database] => delete_file(card, self.names, Step::C4, journal_of(*database)),
             _ => delete_file(card, self.names, Step::C4, SUPER_JOURNAL),
         }
     }
@@ -83,7 +71,7 @@ impl Work<'_> {
         let mut left = 0;
         // a loop: of what the closure of a `filter` did to the card a proof learns nothing
         for database in self.changed() {
-            let journal = self.names.file(DATABASES + *database);
+            let journal = self.names.file(journal_of(*database));
             if card.delete(journal.bytes()).is_err() {
                 left += 1;
             }

@@ -7,7 +7,7 @@ use crate::pages::recorded_pages;
 use card::Card;
 use journal::JOURNAL_LIMIT;
 use journal_writer::{fill_journal, store_journal};
-use names::{DATABASES, FileName, Names};
+use names::{FileName, Names, journal_of};
 use pager::Memory;
 use refusal::{SetFault, Step};
 use sizes::Sizes;
@@ -54,9 +54,10 @@ impl Journals<'_> {
         ensures { Went C.Card.meaning (journal_tasks (files self.now) self.now.nonce (super_named self.now) (recorded_by self.now (contents (C.Card.meaning.holds card.old (files self.now database))) database)) card.old result card.new }
     {
         let file = self.names.file(database);
-        let journal = self.names.file(DATABASES + database);
+        let number = journal_of(database);
+        let journal = self.names.file(number);
         let size = self.sizes.get(database);
-        let site = Site::new(Step::C2, DATABASES + database);
+        let site = Site::new(Step::C2, number);
         site.create(card, journal.bytes())?;
         let recorded = recorded_pages(self.memory, database, size);
         let pages = recorded.as_slice();

@@ -11,4 +11,4 @@ returns-in-empty g c =
 pub returns-in-len1 : goal.returns-in-len1
 returns-in-len1 g c =
     rw (closing_one _ _ (listed c.args.self.now) (omega (arith, c.in-len1.len_at_least, ap length c.changed.ensures.is)) (omega (arith, c.in-len1.len_below, ap length c.changed.ensures.is)))
-    (rw c.changed.ensures.is at c.delete_file.ensures)
+    (rw (c.journal_of.ensures, c.changed.ensures.is) at c.delete_file.ensures)

@@ -19,10 +19,10 @@ loop-database-preserved c =
     let end = c.loop-database.end in
     let new = c.put_ended-end.new.buffer in
     let name : Name = files c.args.self.now (4 + get_or list i 0) in
-    let is : c.bytes.result.now ≡ name = c.bytes.ensures ∙ c.file-journal.ensures in
+    let is : c.bytes.result.now ≡ name = rw c.journal_of.ensures at (c.bytes.ensures ∙ c.file-journal.ensures) in
     let at : c.put_ended-end.result ≡ end + length name + 1 = c.put_ended-end.ensures.end ∙ ap (λ (x : Bytes). end + length x + 1) is in
     let put : take (end + length name + 1) new ≡ take end c.loop-database.buffer ++ (name ++ (0 ∷ [])) =
-    ap (λ (k : ℕ). take k new) (sym at) ∙ c.put_ended-end.ensures.put ∙ ap (λ (x : Bytes). take end c.loop-database.buffer ++ (x ++ (0 ∷ []))) is in
+    ap (λ (k : ℕ). take k new) (sym at) ∙ c.put_ended-end.ensures.front ∙ ap (λ (x : Bytes). take end c.loop-database.buffer ++ (x ++ (0 ∷ []))) is in
     let short : length name ≤ 32 = omega (arith, ap length is, ap length c.bytes.ensures, c.file-journal.result.short) in
     subst (λ (k : ℕ). Listing (λ d. files c.args.self.now (4 + d)) list (i + 1) new k) (sym at)
     (listing_more (λ d. files c.args.self.now (4 + d)) list i c.loop-database.buffer new end c.loop-database-test.true short c.loop-database.invariant put)

@@ -14,7 +14,7 @@ use Rattle.commit.proofs.work.Work.make_journals.Goals as goal
 not_journal : (w : Work) (d k : ℕ) → d < how_many w.names.now → k < how_many w.names.now → files w k ≡ files w (4 + d) → ⊥
 not_journal w d k ld lk =
     let names : Names = w.names.now in
-    files_apart names k (4 + d) (database_is_file (how_many names) k lk) (journal_is_file (how_many names) d ld) (λ e. omega (arith, names.few))
+    files_apart names k (4 + d) (database_is_file (how_many names) k lk) (journal_is_file (how_many names) d ld) (λ e. omega (arith, names.list.few))
 
 pub invariant_of-journals : goal.invariant_of-journals
 invariant_of-journals g c =

@@ -15,7 +15,7 @@ pub returns-in_err-create : goal.returns-in_err-create
 returns-in_err-create g c =
     let p = err_from_is_err_and c.from_residual.result c.from_residual.ensures.1 in
     rw (p.1, p.2)
-    (not_created _ c.args.self.now c.args.database _ _ _ (went_as _ _ _ _ _ _ _ _ create create c.new-site.ensures (c.bytes.ensures ∙ c.file-journal.ensures) refl c.in_err-create.ensures))
+    (not_created _ c.args.self.now c.args.database _ _ _ (went_as _ _ _ _ _ _ _ _ create create (rw c.journal_of-number.ensures at c.new-site.ensures) (rw c.journal_of-number.ensures at (c.bytes.ensures ∙ c.file-journal.ensures)) refl c.in_err-create.ensures))
 
 pub read_originals-requires : goal.read_originals-requires
 read_originals-requires g c =
@@ -24,10 +24,10 @@ read_originals-requires g c =
 
 pub returns-in_err-read_originals : goal.returns-in_err-read_originals
 returns-in_err-read_originals g c =
-    let size : c.get-size.result ≡ size_of c.args.self.now c.args.database = c.get-size.ensures.is (omega (arith, c.requires.listed, c.args.self.now.names.now.few)) in
+    let size : c.get-size.result ≡ size_of c.args.self.now c.args.database = c.get-size.ensures.is (omega (arith, c.requires.listed, c.args.self.now.names.now.list.few)) in
     let is = rw size at (c.as_slice-pages.ensures.is ∙ c.recorded_pages-recorded.ensures) in
     let name = c.bytes-2.ensures ∙ c.file-file.ensures in
-    let created = went_as g.C.Card.meaning _ _ _ _ (at C2 (4 + c.args.database)) _ (files c.args.self.now (4 + c.args.database)) create create c.new-site.ensures (c.bytes.ensures ∙ c.file-journal.ensures) refl c.in_ok-create.ensures in
+    let created = went_as g.C.Card.meaning _ _ _ _ (at C2 (4 + c.args.database)) _ (files c.args.self.now (4 + c.args.database)) create create (rw c.journal_of-number.ensures at c.new-site.ensures) (rw c.journal_of-number.ensures at (c.bytes.ensures ∙ c.file-journal.ensures)) refl c.in_ok-create.ensures in
     let p = err_from_is_err_and c.from_residual-in_err-read_originals.result c.from_residual-in_err-read_originals.ensures.1 in
     rw (p.1, p.2) (not_read _ c.args.self.now c.args.database _ _ created _ _ (rw (name, is) at c.in_err-read_originals.ensures.went))
 
@@ -43,11 +43,11 @@ unwrap-length-requires g c =
 
 pub returns : goal.returns
 returns g c =
-    let size : c.get-size.result ≡ size_of c.args.self.now c.args.database = c.get-size.ensures.is (omega (arith, c.requires.listed, c.args.self.now.names.now.few)) in
+    let size : c.get-size.result ≡ size_of c.args.self.now c.args.database = c.get-size.ensures.is (omega (arith, c.requires.listed, c.args.self.now.names.now.list.few)) in
     let is = rw size at (c.as_slice-pages.ensures.is ∙ c.recorded_pages-recorded.ensures) in
     let name = c.bytes-2.ensures ∙ c.file-file.ensures in
-    let created = went_as g.C.Card.meaning _ _ _ _ (at C2 (4 + c.args.database)) _ (files c.args.self.now (4 + c.args.database)) create create c.new-site.ensures (c.bytes.ensures ∙ c.file-journal.ensures) refl c.in_ok-create.ensures in
+    let created = went_as g.C.Card.meaning _ _ _ _ (at C2 (4 + c.args.database)) _ (files c.args.self.now (4 + c.args.database)) create create (rw c.journal_of-number.ensures at c.new-site.ensures) (rw c.journal_of-number.ensures at (c.bytes.ensures ∙ c.file-journal.ensures)) refl c.in_ok-create.ensures in
     let stored = went_acted g.C.Card.meaning _ _ _ _ _ _ c.told.ensures c.store_journal.ensures in
     let filled = rw (c.unwrap-length.ensures, is, size, c.super_name-name.ensures) at c.fill_journal.ensures in
     stored_whole _ c.args.self.now c.args.database _ _ created _ _ _ _ c.requires.listed (rw (name, is) at c.in_ok-read_originals.ensures.went) (rw (name, is) at c.in_ok-read_originals.ensures.read) filled _ _
-    (rw (c.new-site.ensures, c.bytes-3.ensures ∙ c.file-journal.ensures, is) at stored)
+    (rw (c.new-site.ensures, c.bytes-3.ensures ∙ c.file-journal.ensures, c.journal_of-number.ensures, is) at stored)
