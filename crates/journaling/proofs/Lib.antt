@@ -1,4 +1,3 @@
-pub mod Visits
 pub mod Recorded
 pub mod Copies
 pub mod Readings

@@ -10,4 +10,4 @@ mod originals;
 mod pages;
 
 pub use journals::Journals;
-pub use pages::{is_changed, next_page};
+pub use pages::is_changed;

@@ -5,4 +5,4 @@ mod Nexts
 pub mod Visits
 pub mod Totals
 pub mod Listed
-mod Walks
+pub mod Walks

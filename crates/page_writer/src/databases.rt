@@ -1,5 +1,5 @@
 // The changed pages of one database, written to its file.
-ghost use Rattle.std.specs.Prelude.{◌≡◌, ℕ, ◌<◌, List, [], ◌∷◌, ◌++◌};
+ghost use Rattle.std.specs.Prelude.{◌≡◌, ℕ, List, [], ◌∷◌, ◌++◌};
 ghost use Rattle.card.specs.Calls.Op.{sync as syncs};
 ghost use Rattle.names.specs.Files.{file_of};
 ghost use Rattle.refusal.specs.declared.step.Step.TheVariants.{C3};
@@ -8,32 +8,26 @@ ghost use Rattle.journaling.specs.Plan.{write_tasks, call};
 ghost use Rattle.journaling.specs.Changes.{pages_held};
 
 use card::Card;
-use journal::PAGE_LIMIT;
-use journaling::next_page;
 use names::Names;
 use page_map::page_place;
 use pager::Memory;
 use refusal::{SetFault, Step};
 use steps::Site;
 
-/// Writes the changed pages of a database in ascending order, and makes them safe. For the crates of
-/// this repository: it wants a database of the memory.
+/// Writes the changed pages of a database in ascending order, and makes them safe.
 pub fn write_pages<C: Card>(
     card: &mut C,
     names: &Names,
     memory: &Memory,
     database: usize,
 ) -> Result<(), SetFault>
-    requires known { database < memory.now.count }
     ensures { (stored : ℕ → List ℕ) → Went C.Card.meaning (write_tasks (file_of names.now database) database (pages_held stored memory.now database) ++ (call (file_of names.now) C3 database syncs ∷ [])) card.old result card.new }
 {
     let file = names.file(database);
     let site = Site::new(Step::C3, database);
-    let mut last = 0;
-    while let Some(page) = next_page(memory, database, last, PAGE_LIMIT) {
+    for page in memory.changed_pages(database) {
         let bytes = memory.get(database, page).unwrap();
         site.write(card, file.bytes(), page_place(page), bytes)?;
-        last = page;
     }
     site.sync(card, file.bytes())
 }

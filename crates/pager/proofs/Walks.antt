@@ -1,11 +1,20 @@
 -- The changed pages of a database, as a walk over its map gives them.
-use Rattle.std.proofs.Common.{◌≡◌, ℕ, suc, zero, ◌%◌, false, eqb, List, [], get_or, Some, None, Option, Bor, refl, sym, ap, ◌∙◌}
+use Rattle.std.proofs.Common.{◌≡◌, ℕ, suc, zero, ◌%◌, ◌<◌, ◌≤◌, true, false, eqb, ⊎_elim, List, [], length, get_or, is_some, Some, None, Option, Bor, All, refl, sym, ap, ◌∙◌, arith}
 use Rattle.std.specs.Option.{option_map, unwrap_or}
+use Rattle.std.proofs.lemmas.List.{get_or_past, get_or_default}
+use Rattle.std.proofs.lemmas.Bool.{cases_lt, both_ways}
 use Rattle.page_map.specs.declared.PageMap.{PageMap}
 use Rattle.page_map.specs.Words.{pages_of, digit}
+use Rattle.page_map.specs.Listed.{above}
 use Rattle.page_map.specs.Walks.{pages_in}
 use Rattle.page_map.proofs.Digits.{bit_zero}
+use Rattle.page_map.proofs.Listed.{above_none, above_length, above_within}
+use Rattle.pager.specs.declared.memory.Memory.{Memory}
+use Rattle.pager.specs.Changed.{look}
 use Rattle.pager.specs.Sound.{map_of}
+use Rattle.pager.specs.View.{fields}
+use Rattle.pager.proofs.Keeps.{linked}
+use Rattle.pager.proofs.Counted.{changed_few}
 
 -- where there are no words, no page is in
 wordless : (q : ℕ) → pages_of [] q ≡ false
@@ -27,3 +36,34 @@ pub pages_looked_up :
     ((none : PageMap) → unwrap_or (option_map (λ m. m.now) o) none ≡ get_or maps d none) → pages_in o ≡ map_of maps d
 unfolding map_of no_words
 pages_looked_up maps d o at = λ i q. (looked_up o q ∙ ap (λ (m : PageMap). pages_of m.words q) (at no_words)) i
+
+module _ (m : Memory) (d : ℕ) (four : length m.maps ≡ 4) where
+  -- past the maps there is no page
+  none_past : 4 ≤ d → (q : ℕ) → map_of m.maps d q ≡ false
+  unfolding map_of no_words
+  none_past far q = ap (λ (x : PageMap). pages_of x.words q) (get_or_past m.maps d no_words (omega arith)) ∙ wordless q
+
+  pub walk_few : length (above (map_of m.maps d) 0 4096) ≤ 32
+  walk_few = ⊎_elim near far (cases_lt d 4)
+    where
+      near : d < 4 → length (above (map_of m.maps d) 0 4096) ≤ 32
+      near lt = omega (arith, above_length (map_of m.maps d) 0 4096, changed_few m d lt)
+
+      far : 4 ≤ d → length (above (map_of m.maps d) 0 4096) ≤ 32
+      far past = omega (arith, ap length (above_none (map_of m.maps d) 0 4096 (λ q _. none_past past q)))
+
+  -- each page of the walk is in the store
+  pub walk_held : All (λ p. is_some (look (fields m).changed d p) ≡ true) (above (map_of m.maps d) 0 4096)
+  walk_held i x lt = ⊎_elim near far (cases_lt d 4)
+    where
+      page : ℕ
+      page = get_or (above (map_of m.maps d) 0 4096) i x
+
+      member : map_of m.maps d page ≡ true
+      member = ap (map_of m.maps d) (get_or_default (above (map_of m.maps d) 0 4096) i x 0 lt) ∙ (above_within (map_of m.maps d) 0 4096 i lt).member
+
+      near : d < 4 → is_some (look (fields m).changed d page) ≡ true
+      near low = sym (linked m d page low) ∙ member
+
+      far : 4 ≤ d → is_some (look (fields m).changed d page) ≡ true
+      far past = absurd (both_ways _ (none_past past page) member)

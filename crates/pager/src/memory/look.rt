@@ -1,5 +1,5 @@
 // Making a memory, clearing it, and looking at it.
-ghost use Rattle.std.specs.Prelude.{◌≡◌, ℕ, ◌*◌, ◌<◌, ◌≤◌, min, cond, List, [], length, is_some, Some, None, MatchOption, MatchResult, slice_index};
+ghost use Rattle.std.specs.Prelude.{◌≡◌, ℕ, ◌*◌, ◌<◌, ◌≤◌, min, true, List, [], All, length, is_some, Some, None, MatchOption, MatchResult, slice_index};
 ghost use Rattle.std.specs.Option.{option_map};
 ghost use Rattle.pager.specs.Changed.{look};
 ghost use Rattle.pager.specs.Machine.{cleared};
@@ -99,7 +99,9 @@ impl Memory {
 
     /// The changed pages of a database, in ascending order; none of a database that is not there.
     pub fn changed_pages(&self, database: usize) -> Pages<'_>
-        ensures { left result ≡ above (map_of self.now.maps database) 0 4096 }
+        ensures is { left result ≡ above (map_of self.now.maps database) 0 4096 }
+        ensures few { length (left result) ≤ 32 }
+        ensures held { All (λ p. is_some (look (fields self.now).changed database p) ≡ true) (left result) }
     {
         Pages::new(self.maps.get(database))
     }

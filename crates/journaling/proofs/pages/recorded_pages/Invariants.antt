@@ -1,10 +1,8 @@
-use Rattle.std.proofs.Common.{◌-◌}
-use Rattle.pager.specs.Sound.{map_of}
-use Rattle.journaling.proofs.Recorded.{Gathered}
+use Rattle.std.proofs.Common.{◌≡◌, ◌∷◌}
+use Rattle.std.specs.List.{filter}
+use Rattle.journaling.proofs.Recorded.{is_later}
 use Rattle.journaling.proofs.pages.recorded_pages.Given as goal
 
 abbrev pub invariant-loop-page : goal.invariant-loop-page
-invariant-loop-page l = Gathered (map_of l.memory.maps l.database) l.size l.pages.items l.last
-
-abbrev pub decreases-loop-page : goal.decreases-loop-page
-decreases-loop-page l = l.size - l.last
+invariant-loop-page l =
+    goal.iterator-loop-page.can_next l.page-iterator × (goal.iterator-loop-page.is_finite l.page-iterator × (l.pages.items ≡ 1 ∷ filter (is_later l.size) l.yielded))

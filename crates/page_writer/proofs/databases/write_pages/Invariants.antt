@@ -1,11 +1,9 @@
-use Rattle.std.proofs.Common.{◌-◌}
 use Rattle.names.specs.Files.{file_of}
 use Rattle.page_writer.proofs.Writings.{Writing}
 use Rattle.page_writer.proofs.databases.write_pages.Given as goal
 
 abbrev pub invariant-loop-page : goal.invariant-loop-page
 invariant-loop-page g l =
-    Writing g.C.Card.meaning (file_of l.names l.database) l.memory l.database l.initial.card l.last l.card
-
-abbrev pub decreases-loop-page : goal.decreases-loop-page
-decreases-loop-page g l = 4096 - l.last
+    (goal.iterator-loop-page g).can_next l.page-iterator
+    × ((goal.iterator-loop-page g).is_finite l.page-iterator
+    × Writing g.C.Card.meaning (file_of l.names l.database) l.memory l.database l.initial.card l.yielded l.card)

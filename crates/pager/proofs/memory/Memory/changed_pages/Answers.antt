@@ -1,8 +1,18 @@
-use Rattle.std.proofs.Common.{ap, ◌∙◌, arith}
+use Rattle.std.proofs.Common.{◌≡◌, ap, ◌∙◌, arith}
 use Rattle.page_map.specs.Sets.{PageSet}
 use Rattle.page_map.specs.Listed.{above}
-use Rattle.pager.proofs.Walks.{pages_looked_up}
+use Rattle.page_map.specs.Walks.{left}
+use Rattle.pager.specs.Sound.{map_of}
+use Rattle.pager.proofs.Walks.{pages_looked_up, walk_few, walk_held}
 use Rattle.pager.proofs.memory.Memory.changed_pages.Goals as goal
 
 pub returns : goal.returns
-returns c = c.new.ensures ∙ ap (λ (s : PageSet). above s 0 4096) (pages_looked_up c.args.self.now.maps c.args.database c.get.result (c.get.ensures.lookup.4 (omega arith)))
+returns c =
+    let m = c.args.self.now in
+    let d = c.args.database in
+    let is : left c.new.result ≡ above (map_of m.maps d) 0 4096 = c.new.ensures ∙ ap (λ (s : PageSet). above s 0 4096) (pages_looked_up m.maps d c.get.result (c.get.ensures.lookup.4 (omega arith))) in
+    record {
+      is = is;
+      few = rw is (walk_few m d (omega arith));
+      held = rw is (walk_held m d (omega arith));
+    }
