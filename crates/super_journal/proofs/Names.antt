@@ -1,181 +1,170 @@
--- Names in a super-journal, found one after the other by the zero bytes that end them.
-use Rattle.std.proofs.Common.{◌≡◌, ℕ, suc, ◌+◌, ◌-◌, ◌<◌, ◌≤◌, List, [], ◌∷◌, ◌++◌, length, get_or, take, drop, sym, refl, ap, ◌∙◌, subst, ap₂, append_assoc, arith, length-append, length-drop, take-add, below_more}
-use native.Mathlib.Decide.{dec_lt}
-use Rattle.std.specs.List.{AllByRecursion}
-use Rattle.std.proofs.lemmas.List.{take-append-drop, take_more, take_all, drop_more, drop-drop, get_or-take, get_or-drop, get_or-append_right}
+-- The names of a super-journal, cut at its zero bytes.
+use Rattle.std.proofs.Common.{◌≡◌, ℕ, Bool, true, false, zero, suc, ◌<◌, ◌≤◌, eqb, cond, List, [], ◌∷◌, ◌++◌, length, get_or, map, sym, refl, ap, ◌∙◌, subst, append_assoc, arith, length-append, Bor}
+use Rattle.std.specs.List.{All, AllByRecursion, slice_split, onto_first}
+use Rattle.std.proofs.lemmas.Bool.{ne_eqb, eqb-true, eqb-false}
+use Rattle.std.proofs.lemmas.List.{append_cancel_right, get_or_default, map-append}
+use Rattle.std.proofs.lemmas.List.Splits.{slice_split_at, length-slice_split}
+use Rattle.std.proofs.lemmas.Iterator.{YieldsList}
+use Rattle.std.proofs.lemmas.Iterator.Consumers.{YieldsList-at}
+use Rattle.std.proofs.lemmas.Iterator.Splits.{YieldsList-from_slice_split}
+use Rattle.std.specs.Fn.{CalledAt}
+use Rattle.std.specs.Iterator.{Yields}
+use Rattle.std.specs.Slice.Iter.{split_steps, split_rest, split_done, split_callee}
+use denote.Param.Members.{Mut}
 use Rattle.card.specs.Meaning.{Bytes, Name}
-use Rattle.card.specs.Calls.{part}
-use Rattle.super_journal.specs.Super.{super_journal_bytes, Unbroken, Plain, LawfulNames, lying_at}
-use Rattle.journal.specs.declared.verdict.Span.{Span}
-use Rattle.journal.proofs.Pieces.{length_part}
-
--- what stands before the first zero byte is told by the bytes
-first_zero : (n m x y : Bytes) → Unbroken n → Unbroken m → n ++ (0 ∷ x) ≡ m ++ (0 ∷ y) → (n ≡ m) × (x ≡ y)
-first_zero [] [] x y un um e = (refl, ap (drop 1) e)
-first_zero [] (b ∷ m) x y un um e = absurd (um 0 (omega arith) (sym (ap (λ (s : Bytes). get_or s 0 0) e)))
-first_zero (a ∷ n) [] x y un um e = absurd (un 0 (omega arith) (ap (λ (s : Bytes). get_or s 0 0) e))
-first_zero (a ∷ n) (b ∷ m) x y un um e =
-    let more : (n ≡ m) × (x ≡ y) = first_zero n m x y (λ k lt. un (suc k) (omega arith)) (λ k lt. um (suc k) (omega arith)) (ap (drop 1) e) in
-    let head : a ≡ b = ap (λ (s : Bytes). get_or s 0 0) e in
-    (ap₂ ◌∷◌ head more.0, more.1)
-
-some_names : (n : Name) (ns : List Name) → 1 ≤ length (super_journal_bytes (n ∷ ns))
-unfolding super_journal_bytes
-some_names n ns = omega (arith, length-append n (0 ∷ super_journal_bytes ns))
-
--- a super-journal that begins with the names of another goes on with names
-pub names_front :
-    (ns ms : List Name) (rest : Bytes) → AllByRecursion Plain ns → AllByRecursion Plain ms → super_journal_bytes ns ++ rest ≡ super_journal_bytes ms →
-    (qs : List Name) × AllByRecursion Plain qs × (rest ≡ super_journal_bytes qs) × (length ms ≡ length ns + length qs)
-unfolding super_journal_bytes
-names_front [] ms rest pn pm e = (ms, pm, e, omega arith)
-names_front (n ∷ ns) [] rest pn pm e = absurd (omega (arith, ap length e, length-append (n ++ (0 ∷ super_journal_bytes ns)) rest, length-append n (0 ∷ super_journal_bytes ns)))
-names_front (n ∷ ns) (m ∷ ms) rest pn pm e =
-    let one : (n ≡ m) × (super_journal_bytes ns ++ rest ≡ super_journal_bytes ms) =
-    first_zero n m (super_journal_bytes ns ++ rest) (super_journal_bytes ms) pn.0.unbroken pm.0.unbroken (sym (append_assoc n (0 ∷ super_journal_bytes ns) rest) ∙ e) in
-    let more = names_front ns ms rest pn.1 pm.1 one.1 in
-    (more.0, more.1, more.2, omega (arith, more.3))
+use Rattle.super_journal.specs.Super.{super_journal_bytes, Unbroken, Plain, LawfulNames}
+use Rattle.super_journal.specs.Written.{texts}
 
 pub super_push : (ns : List Name) (n : Name) → super_journal_bytes (ns ++ (n ∷ [])) ≡ super_journal_bytes ns ++ (n ++ (0 ∷ []))
 unfolding super_journal_bytes
 super_push [] n = refl
 super_push (m ∷ ns) n = ap (λ (t : Bytes). m ++ (0 ∷ t)) (super_push ns n) ∙ sym (append_assoc m (0 ∷ super_journal_bytes ns) (n ++ (0 ∷ [])))
 
-lying_push : (b : Bytes) (ss : List Span) (s : Span) → lying_at b (ss ++ (s ∷ [])) ≡ lying_at b ss ++ (part b s.place s.length ∷ [])
-lying_push b [] s = refl
-lying_push b (t ∷ ss) s = ap (λ (ns : List Name). part b t.place t.length ∷ ns) (lying_push b ss s)
-
-length_lying : (b : Bytes) (ss : List Span) → length (lying_at b ss) ≡ length ss
-length_lying b [] = refl
-length_lying b (s ∷ ss) = ap suc (length_lying b ss)
-
-all_push : (ns : List Name) (n : Name) → AllByRecursion Plain ns → Plain n → AllByRecursion Plain (ns ++ (n ∷ []))
-all_push [] n ps p = (p, tt)
-all_push (m ∷ ns) n ps p = (ps.0, all_push ns n ps.1 p)
-
--- the names found so far: those that end before the start of the next, which has no zero byte up to i
-pub record Found (b : Bytes) (found : List Span) (start i : ℕ) : Type 0 where
-  pub few : length found ≤ 4
-  pub upto : start ≤ i
-  pub inside : start ≤ length b
-  pub front : take start b ≡ super_journal_bytes (lying_at b found)
-  pub plain : AllByRecursion Plain (lying_at b found)
-  pub unbroken : (k : ℕ) → k < i → start ≤ k → get_or b k 0 ≡ 0 → ⊥
-
-pub found_none : (b : Bytes) → Found b [] 0 0
+-- the bytes of names end by a zero byte
+pub super_ends : (ns : List Name) → 1 ≤ length ns → (front : Bytes) × (super_journal_bytes ns ≡ front ++ (0 ∷ []))
 unfolding super_journal_bytes
-found_none b = record { few = omega arith; upto = omega arith; inside = omega arith; front = refl; plain = tt; unbroken = λ k lt. absurd (omega arith) }
+super_ends [] some = absurd (omega arith)
+super_ends (n ∷ []) some = (n, refl)
+super_ends (n ∷ m ∷ ns) some =
+    let more = super_ends (m ∷ ns) (omega arith) in (n ++ (0 ∷ more.0), ap (λ (t : Bytes). n ++ (0 ∷ t)) more.1 ∙ sym (append_assoc n (0 ∷ more.0) (0 ∷ [])))
 
-module _ (b : Bytes) (found : List Span) (start i : ℕ) (so_far : Found b found start i) where
-  abbrev names : List Name
-  names = lying_at b found
+-- the parts between the zero bytes of some bytes
+abbrev pub parts : Bytes → List Name
+parts b = slice_split (λ x. eqb x 0) b
 
-  pub found_skip : (get_or b i 0 ≡ 0 → ⊥) → Found b found start (i + 1)
-  found_skip ne =
-      record {
-        few = so_far.few;
-        upto = omega (arith, so_far.upto);
-        inside = so_far.inside;
-        front = so_far.front;
-        plain = so_far.plain;
-        unbroken = below_more _ i so_far.unbroken (λ le. ne);
-      }
+pub some_part : (b : Bytes) → 1 ≤ length (parts b)
+some_part b = omega (arith, length-slice_split (λ x. eqb x 0) b)
 
-  -- bytes that are a super-journal go on with names from the start on
-  goes_on : (ms : List Name) → LawfulNames ms → b ≡ super_journal_bytes ms → (qs : List Name) × AllByRecursion Plain qs × (drop start b ≡ super_journal_bytes qs) × (length ms ≡ length found + length qs)
-  goes_on ms ok e =
-      let more = names_front names ms (drop start b) so_far.plain ok.each (ap (λ (t : Bytes). t ++ drop start b) (sym so_far.front) ∙ take-append-drop start b ∙ e) in
-      (more.0, more.1, more.2, more.3 ∙ ap (λ (n : ℕ). n + length more.0) counted)
-    where
-      counted : length names ≡ length found
-      counted = length_lying b found
+-- no part has a zero byte
+cons_unbroken : (x : ℕ) (n : Name) → (x ≡ 0 → ⊥) → Unbroken n → Unbroken (x ∷ n)
+cons_unbroken x n ne un zero lt = ne
+cons_unbroken x n ne un (suc k) lt = un k (omega arith)
 
-  -- the name that ends at i
-  module _ (in_bytes : i < length b) (ends : get_or b i 0 ≡ 0) where
-    abbrev next : Name
-    next = part b start (i - start)
+pub unbroken : (b : Bytes) → AllByRecursion Unbroken (parts b)
+unbroken [] = (λ k lt. absurd (omega arith), tt)
+unbroken (x ∷ b) = by (unbroken b) (eqb x 0) (eqb-false x 0)
+  where
+    onto : (x ≡ 0 → ⊥) → (ns : List Name) → AllByRecursion Unbroken ns → AllByRecursion Unbroken (onto_first x ns)
+    onto ne [] all = (cons_unbroken x [] ne (λ k lt. absurd (omega arith)), tt)
+    onto ne (n ∷ ns) all = (cons_unbroken x n ne all.0, all.1)
 
-    next_long : length next ≡ i - start
-    next_long = length_part b start (i - start) (omega (arith, so_far.upto))
+    by : AllByRecursion Unbroken (parts b) → (t : Bool) → (t ≡ false → x ≡ 0 → ⊥) → AllByRecursion Unbroken (cond t ([] ∷ parts b) (onto_first x (parts b)))
+    by rest true ne = (λ k lt. absurd (omega arith), rest)
+    by rest false ne = onto (ne refl) (parts b) rest
 
-    next_unbroken : Unbroken next
-    next_unbroken k lt z =
-        so_far.unbroken (start + k) (omega (arith, next_long)) (omega arith)
-        (sym (get_or-take (i - start) (drop start b) k 0 (omega (arith, next_long)) ∙ get_or-drop start b k 0) ∙ z)
+-- the parts, each ended by a zero byte, are the bytes and one more
+pub joined : (b : Bytes) → super_journal_bytes (parts b) ≡ b ++ (0 ∷ [])
+unfolding super_journal_bytes
+joined [] = refl
+joined (x ∷ b) = by (joined b) (eqb x 0) (eqb-true x 0)
+  where
+    onto : (ns : List Name) → 1 ≤ length ns → super_journal_bytes (onto_first x ns) ≡ x ∷ super_journal_bytes ns
+    onto [] some = absurd (omega arith)
+    onto (n ∷ ns) some = refl
 
-    back : start + (i - start) ≡ i
-    back = omega (arith, so_far.upto)
+    by : super_journal_bytes (parts b) ≡ b ++ (0 ∷ []) → (t : Bool) → (t ≡ true → x ≡ 0) → super_journal_bytes (cond t ([] ∷ parts b) (onto_first x (parts b))) ≡ x ∷ (b ++ (0 ∷ []))
+    by rest true is = ap (λ (y : ℕ). y ∷ super_journal_bytes (parts b)) (sym (is refl)) ∙ ap (λ (t : Bytes). x ∷ t) rest
+    by rest false is = onto (parts b) (some_part b) ∙ ap (λ (t : Bytes). x ∷ t) rest
 
-    rest_is : drop start b ≡ next ++ (0 ∷ drop (i + 1) b)
-    rest_is =
-        sym (take-append-drop (i - start) (drop start b))
-        ∙ ap (λ (t : Bytes). next ++ t)
-        (drop-drop (i - start) start b ∙ ap (λ (m : ℕ). drop m b) back ∙ drop_more b i 0 in_bytes ∙ ap (λ (x : ℕ). x ∷ drop (i + 1) b) ends)
+-- names, each ended by a zero byte, are cut into the names, and nothing past the last
+cut_super : (ns : List Name) → AllByRecursion Plain ns → parts (super_journal_bytes ns) ≡ ns ++ ([] ∷ [])
+unfolding super_journal_bytes
+cut_super [] all = refl
+cut_super (n ∷ ns) all = slice_split_at (λ x. eqb x 0) n 0 (super_journal_bytes ns) none refl ∙ ap (λ (ps : List Name). n ∷ ps) (cut_super ns all.1)
+  where
+    none : All (λ x. eqb x 0 ≡ false) n
+    none k d lt = ne_eqb (get_or n k d) 0 (λ e. all.0.unbroken k lt (get_or_default n k 0 d lt ∙ e))
 
-    -- a super-journal has it
-    pub must_fit : (ms : List Name) → LawfulNames ms → b ≡ super_journal_bytes ms → (length found < 4) × (1 ≤ i - start) × (i - start ≤ 32)
-    unfolding super_journal_bytes
-    must_fit ms ok e = let on = goes_on ms ok e in by on.0 on.1 on.2 on.3
-      where
-        by : (qs : List Name) → AllByRecursion Plain qs → drop start b ≡ super_journal_bytes qs → length ms ≡ length found + length qs → (length found < 4) × (1 ≤ i - start) × (i - start ≤ 32)
-        by [] ps is n = absurd (omega (arith, ap length is, length-drop start b, so_far.upto))
-        by (q ∷ qs) ps is n =
-            let same : (next ≡ q) × (drop (i + 1) b ≡ super_journal_bytes qs) = first_zero next q (drop (i + 1) b) (super_journal_bytes qs) next_unbroken ps.0.unbroken (sym rest_is ∙ is) in
-            let size : length next ≡ length q = ap length same.0 in
-            (omega (arith, n, ok.few), omega (arith, next_long, size, ps.0.some), omega (arith, next_long, size, ps.0.short))
+cut_ended : (b : Bytes) → parts (b ++ (0 ∷ [])) ≡ parts b ++ ([] ∷ [])
+cut_ended [] = refl
+cut_ended (x ∷ b) = by (cut_ended b) (eqb x 0)
+  where
+    onto : (ns : List Name) → 1 ≤ length ns → onto_first x (ns ++ ([] ∷ [])) ≡ onto_first x ns ++ ([] ∷ [])
+    onto [] some = absurd (omega arith)
+    onto (n ∷ ns) some = refl
 
-    pub found_more : length found < 4 → 1 ≤ i - start → i - start ≤ 32 → Found b (found ++ (record { place = start; length = i - start } ∷ [])) (i + 1) (i + 1)
-    found_more room some short =
-        record {
-          few = omega (arith, length-append found (span ∷ []));
-          upto = omega arith;
-          inside = omega arith;
-          front =
-              take_more b i 0 in_bytes
-              ∙ ap₂ (λ (t : Bytes) (x : ℕ). t ++ (x ∷ [])) (ap (λ (m : ℕ). take m b) (sym back) ∙ take-add start (i - start) b) ends
-              ∙ append_assoc (take start b) next (0 ∷ [])
-              ∙ ap (λ (t : Bytes). t ++ (next ++ (0 ∷ []))) so_far.front
-              ∙ sym (super_push names next)
-              ∙ ap super_journal_bytes (sym more);
-          plain = subst (λ (ns : List Name). AllByRecursion Plain ns) (sym more) (all_push names next so_far.plain (record { some = omega (arith, next_long); short = omega (arith, next_long); unbroken = next_unbroken }));
-          unbroken = λ k lt le. absurd (omega arith);
-        }
-      where
-        span : Span
-        span = record { place = start; length = i - start }
+    by :
+        parts (b ++ (0 ∷ [])) ≡ parts b ++ ([] ∷ []) → (t : Bool) →
+        cond t ([] ∷ parts (b ++ (0 ∷ []))) (onto_first x (parts (b ++ (0 ∷ [])))) ≡ cond t ([] ∷ parts b) (onto_first x (parts b)) ++ ([] ∷ [])
+    by rest true = ap (λ (ps : List Name). [] ∷ ps) rest
+    by rest false = ap (onto_first x) rest ∙ onto (parts b) (some_part b)
 
-        more : lying_at b (found ++ (span ∷ [])) ≡ names ++ (next ∷ [])
-        more = lying_push b found span
+-- bytes that make a super-journal with one zero byte more are cut into its names
+pub cut : (b : Bytes) (ns : List Name) → AllByRecursion Plain ns → b ++ (0 ∷ []) ≡ super_journal_bytes ns → parts b ≡ ns
+cut b ns all e = append_cancel_right (parts b) ns ([] ∷ []) (sym (cut_ended b) ∙ ap parts e ∙ cut_super ns all)
 
-  module _ (all : length b ≤ i) where
-    -- the last name has no end
-    pub no_end : (ms : List Name) → start < length b → LawfulNames ms → b ≡ super_journal_bytes ms → ⊥
-    unfolding super_journal_bytes
-    no_end ms more ok e = let on = goes_on ms ok e in by on.0 on.2
-      where
-        by : (qs : List Name) → drop start b ≡ super_journal_bytes qs → ⊥
-        by [] is = omega (arith, ap length is, length-drop start b)
-        by (q ∷ qs) is =
-            let none : length q - length q ≡ 0 = omega arith in
-            let size : length b - start ≡ length q + suc (length (super_journal_bytes qs)) = sym (length-drop start b) ∙ ap length is ∙ length-append q (0 ∷ super_journal_bytes qs) in
-            so_far.unbroken (start + length q) (omega arith) (omega arith)
-            (sym (get_or-drop start b (length q) 0) ∙ ap (λ (t : Bytes). get_or t (length q) 0) is
-            ∙ get_or-append_right q (0 ∷ super_journal_bytes qs) (length q) (length q) 0 refl (omega arith) ∙ ap (λ (m : ℕ). get_or (0 ∷ super_journal_bytes qs) m 0) none)
+-- what `split` at zero bytes gives
+pub splits :
+    {F : Type 0} {g : Mut F (Bor ℕ × Unit {0}) Bool} {f : F} {s u : _} {b : Bytes} (given : List (Bor Bytes)) (t : _) → Yields (split_steps g) s given t → s ≡ u → split_rest u ≡ b → split_done u ≡ false → split_callee u ≡ f →
+    ((x : ℕ) (r : Bool) (q : F) → CalledAt g f x r q → (q ≡ f) × (r ≡ eqb x 0)) → YieldsList (split_steps g) (λ x. x.now) s (parts b)
+splits given t y e rest done closure tests = YieldsList-at e (YieldsList-from_slice_split _ (λ x. eqb x 0) _ rest done closure tests)
 
-    -- there is no name
-    pub none_found : (ms : List Name) → length found ≡ 0 → LawfulNames ms → b ≡ super_journal_bytes ms → ⊥
-    unfolding super_journal_bytes
-    none_found ms zero-count ok e = let on = goes_on ms ok e in by on.0 on.2 on.3 (dec_lt start (length b))
-      where
-        by : (qs : List Name) → drop start b ≡ super_journal_bytes qs → length ms ≡ length found + length qs → Dec (start < length b) → ⊥
-        by qs is n (yes more) = no_end ms more ok e
-        by [] is n (no done) = omega (arith, ok.some)
-        by (q ∷ qs) is n (no done) = omega (arith, ap length is, length-drop start b, length-append q (0 ∷ super_journal_bytes qs))
+-- a name may be so long
+abbrev pub Long : Name → Type 0
+Long n = (1 ≤ length n) × (length n ≤ 32)
 
-  -- the bytes are those of the names found
-  pub all_found : 1 ≤ length found → length b ≤ start → LawfulNames names × (b ≡ super_journal_bytes names)
-  all_found some done =
-      (record { some = omega (arith, counted); few = omega (arith, counted, so_far.few); each = so_far.plain }, sym (take_all start b done) ∙ so_far.front)
-    where
-      counted : length names ≡ length found
-      counted = length_lying b found
+-- the names taken so far: all that were given, not more than may be, each as long as it may be
+pub record Taken (given names : List (Bor Bytes)) : Type 0 where
+  pub all : names ≡ given
+  pub few : length names ≤ 4
+  pub each : AllByRecursion Long (texts names)
+
+pub taken_none : Taken [] []
+taken_none = record { all = refl; few = omega arith; each = tt }
+
+pub taken_more : (given names : List (Bor Bytes)) (name : Bor Bytes) → Taken given names → length names < 4 → Long name.now → Taken (given ++ (name ∷ [])) (names ++ (name ∷ []))
+taken_more given names name so_far room long =
+    record {
+      all = ap (λ (ns : List (Bor Bytes)). ns ++ (name ∷ [])) so_far.all;
+      few = omega (arith, length-append names (name ∷ []));
+      each = subst (AllByRecursion Long) (sym (map-append (λ (r : Bor Bytes). r.now) names (name ∷ []))) (push (texts names) so_far.each);
+    }
+  where
+    push : (ns : List Name) → AllByRecursion Long ns → AllByRecursion Long (ns ++ (name.now ∷ []))
+    push [] all = (long, tt)
+    push (n ∷ ns) all = (all.0, push ns all.1)
+
+plain_each : (ns : List Name) → AllByRecursion Long ns → AllByRecursion Unbroken ns → AllByRecursion Plain ns
+plain_each [] long un = tt
+plain_each (n ∷ ns) long un = (record { some = long.0.0; short = long.0.1; unbroken = un.0 }, plain_each ns long.1 un.1)
+
+-- the names, where all parts were taken
+pub all_taken :
+    (b front : Bytes) (given names : List (Bor Bytes)) → Taken given names → map (λ (r : Bor Bytes). r.now) given ≡ parts front → b ≡ front ++ (0 ∷ []) →
+    LawfulNames (texts names) × (b ≡ super_journal_bytes (texts names)) × (length names ≤ 4)
+all_taken b front given names taken all ends = (
+  record {
+    some = omega (arith, some_part front, ap length is);
+    few = omega (arith, taken.few, size names);
+    each = plain_each (texts names) taken.each (subst (AllByRecursion Unbroken) (sym is) (unbroken front));
+  },
+  ends ∙ sym (joined front) ∙ ap super_journal_bytes (sym is),
+  taken.few,
+)
+  where
+    is : texts names ≡ parts front
+    is = ap texts taken.all ∙ all
+
+    size : (rs : List (Bor Bytes)) → length (texts rs) ≡ length rs
+    size [] = refl
+    size (r ∷ rs) = ap suc (size rs)
+
+-- a part of a super-journal that comes after so many is one of its names
+pub part_fits :
+    (front : Bytes) (n : ℕ) (name : Name) → (n < length (parts front)) × (name ≡ get_or (parts front) n name) →
+    (ns : List Name) → LawfulNames ns → front ++ (0 ∷ []) ≡ super_journal_bytes ns → (n < 4) × Long name
+part_fits front n name turn ns ok e = (omega (arith, size, ok.few, turn.0), subst Long (sym here) (at ns ok.each n (omega (arith, size, turn.0))))
+  where
+    is : parts front ≡ ns
+    is = cut front ns ok.each e
+
+    size : length (parts front) ≡ length ns
+    size = ap length is
+
+    here : name ≡ get_or ns n name
+    here = turn.1 ∙ ap (λ (ps : List Name). get_or ps n name) is
+
+    at : (ms : List Name) → AllByRecursion Plain ms → (k : ℕ) → k < length ms → Long (get_or ms k name)
+    at [] all k lt = absurd (omega arith)
+    at (m ∷ ms) all zero lt = (all.0.some, all.0.short)
+    at (m ∷ ms) all (suc k) lt = at ms all.1 k (omega arith)

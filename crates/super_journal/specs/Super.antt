@@ -2,8 +2,7 @@
 use Rattle.std.specs.Prelude.{ℕ, ◌<◌, ◌≤◌, List, [], ◌∷◌, ◌++◌, length, ◌≢◌, slice_index}
 use Rattle.std.specs.List.{AllByRecursion}
 use Rattle.card.specs.Meaning.{Bytes, Name}
-use Rattle.card.specs.Calls.{name_limit, part}
-use Rattle.journal.specs.declared.verdict.Span.{Span}
+use Rattle.card.specs.Calls.{name_limit}
 
 abbrev pub name_count_limit : ℕ
 name_count_limit = 4
@@ -26,8 +25,3 @@ pub record LawfulNames (ns : List Name) : Type 0 where
   pub some : 1 ≤ length ns
   pub few : length ns ≤ name_count_limit
   pub each : AllByRecursion Plain ns
-
--- the names that lie at places
-abbrev pub lying_at : Bytes → List Span → List Name
-lying_at b [] = []
-lying_at b (s ∷ ss) = part b s.place s.length ∷ lying_at b ss

@@ -1,24 +1,10 @@
 -- The names that a super-journal lists.
-use Rattle.std.proofs.Common.{◌≡◌, ℕ, zero, suc, ◌-◌, ◌*◌, ◌<◌, ◌≤◌, List, [], ◌∷◌, ◌++◌, length, get_or, take, Some, Option, sym, refl, ap, ◌∙◌, arith, length-append, length-take}
+use Rattle.std.proofs.Common.{◌≡◌, ℕ, ◌-◌, ◌*◌, ◌≤◌, List, [], ◌∷◌, ◌++◌, length, take, Some, Option, sym, ap, ◌∙◌, arith, length-append, length-take}
 use Rattle.std.proofs.lemmas.List.{take_all, take_at}
 use Rattle.std.specs.List.{AllByRecursion}
 use Rattle.card.specs.Meaning.{Bytes, Name}
-use Rattle.card.specs.Calls.{part, part_of}
-use Rattle.super_journal.specs.Super.{super_journal_bytes, LawfulNames, Plain, lying_at}
-use Rattle.journal.specs.declared.verdict.Span.{Span}
-
-abbrev pub no_span : Span
-no_span = record { place = 0; length = 0 }
-
-pub length_lying : (b : Bytes) (ss : List Span) → length (lying_at b ss) ≡ length ss
-length_lying b [] = refl
-length_lying b (s ∷ ss) = ap suc (length_lying b ss)
-
--- the name of a place
-pub lying_here : (b : Bytes) (ss : List Span) (i : ℕ) → i < length ss → get_or (lying_at b ss) i [] ≡ part b (get_or ss i no_span).place (get_or ss i no_span).length
-lying_here b [] i lt = absurd (omega arith)
-lying_here b (s ∷ ss) zero lt = refl
-lying_here b (s ∷ ss) (suc i) lt = lying_here b ss i (omega arith)
+use Rattle.card.specs.Calls.{part_of}
+use Rattle.super_journal.specs.Super.{super_journal_bytes, LawfulNames, Plain}
 
 names_each : (ns : List Name) → AllByRecursion Plain ns → length (super_journal_bytes ns) ≤ 33 * length ns
 unfolding super_journal_bytes

@@ -1,8 +1,7 @@
 // The set's super-journal, and the files that it lists.
 ghost use Rattle.std.specs.Prelude.{◌≡◌, ℕ, ◌<◌, ◌≤◌, ◌⊎◌, List, length as count_of, take, IfOk, Some, None, MatchOption};
-ghost use Rattle.card.specs.Calls.{part};
 ghost use Rattle.card.specs.Meaning.{Name};
-ghost use Rattle.super_journal.specs.Super.{LawfulNames, lying_at};
+ghost use Rattle.super_journal.specs.Written.{texts};
 ghost use Rattle.refusal.specs.declared.step.Step.TheVariants.{R1};
 ghost use Rattle.names.specs.Files.{how_many, file_of};
 ghost use Rattle.set_files.specs.Files.{Present};
@@ -10,7 +9,7 @@ ghost use Rattle.survey.specs.Finds.{JournalName, NoNames, AllFine, Stray, Liste
 ghost use Rattle.set_files.specs.Looked.{Looked, Told, dropped, ended, never, never₂};
 
 use card::Card;
-use journal::{JOURNAL_LIMIT, Span};
+use journal::JOURNAL_LIMIT;
 use names::{Names, SUPER_JOURNAL};
 use refusal::{FOREIGN, Refusal, SetFault, Step};
 use set_files::length_of;
@@ -22,16 +21,6 @@ const NO_LIST: Refusal = Refusal::Damaged {
     file: SUPER_JOURNAL,
     record: 0,
 };
-
-/// The name that lies at a place of the bytes.
-fn name_at(bytes: &[u8], span: Span) -> &[u8]
-    requires { 1 ≤ count_of (part bytes.now span.place span.length) }
-    ensures { result.now ≡ part bytes.now span.place span.length }
-{
-    let place = span.place;
-    let length = span.length.min(bytes.len() - place);
-    &bytes[place..place + length]
-}
 
 /// Tests that a listed file is a journal of the set, or absent.
 fn check_listed<C: Card>(card: &mut C, names: &Names, name: &[u8]) -> Result<(), Refusal>
@@ -47,19 +36,13 @@ fn check_listed<C: Card>(card: &mut C, names: &Names, name: &[u8]) -> Result<(),
     }
 }
 
-/// Tests each file whose name lies at one of the places of the bytes.
-fn check_names<C: Card>(
-    card: &mut C,
-    names: &Names,
-    bytes: &[u8],
-    places: &[Span],
-) -> Result<(), Refusal>
-    requires { LawfulNames (lying_at bytes.now places.now) }
+/// Tests each listed file.
+fn check_names<C: Card>(card: &mut C, names: &Names, list: &[&[u8]]) -> Result<(), Refusal>
     ensures looked { Looked C.Card.meaning R1 (file_of names.now) card.old (dropped result) card.new }
-    ensures told { Told result (λ _. AllFine (C.Card.meaning.holds card.old) (file_of names.now) (how_many names.now) (lying_at bytes.now places.now)) never₂ (λ f. (f ≡ 9) × Stray (C.Card.meaning.holds card.old) (file_of names.now) (how_many names.now) (lying_at bytes.now places.now)) never }
+    ensures told { Told result (λ _. AllFine (C.Card.meaning.holds card.old) (file_of names.now) (how_many names.now) (texts list.now)) never₂ (λ f. (f ≡ 9) × Stray (C.Card.meaning.holds card.old) (file_of names.now) (how_many names.now) (texts list.now)) never }
 {
-    for span in places {
-        check_listed(card, names, name_at(bytes, *span))?;
+    for name in list {
+        check_listed(card, names, name)?;
     }
     Ok(())
 }
@@ -70,7 +53,7 @@ fn check_list<C: Card>(card: &mut C, names: &Names, bytes: &[u8]) -> Result<(), 
     ensures told { Told result (λ _. (ns : List Name) × Listed (C.Card.meaning.holds card.old) (file_of names.now) (how_many names.now) bytes.now ns) (λ f k. (f ≡ 8) × (k ≡ 0) × NoNames bytes.now) (λ f. (f ≡ 9) × ((ns : List Name) × Strays (C.Card.meaning.holds card.old) (file_of names.now) (how_many names.now) bytes.now ns)) never }
 {
     let list = read_names(bytes).ok_or(NO_LIST)?;
-    check_names(card, names, bytes, list.as_slice())
+    check_names(card, names, list.as_slice())
 }
 
 /// Reads the present super-journal to the front of the buffer, and tells its length; none if it is

@@ -1,45 +1,49 @@
-use Rattle.std.proofs.Common.{◌≡◌, ℕ, false, ◌-◌, ◌<◌, ◌≤◌, leb, eqb, length, sym, ◌∙◌, arith}
+use Rattle.std.proofs.Common.{◌≡◌, ℕ, false, ◌<◌, ◌≤◌, leb, eqb, [], ◌∷◌, length, sym, ap, ◌∙◌, arith, rules}
 use Rattle.std.proofs.lemmas.Bool.{and_from, and_parts, both_ways, le-leb, leb-true, eq-eqb, eqb-true}
-use Rattle.super_journal.proofs.Names.{found_none, found_more, must_fit, no_end, none_found, all_found}
+use Rattle.std.proofs.lemmas.Bool.Decides.{Decides-eqb}
+use Rattle.std.proofs.lemmas.Iterator.Consumers.{YieldsList-turn, YieldsList-end}
+use Rattle.std.proofs.lemmas.Slice.Eq.{strip_suffix_is}
+use Rattle.super_journal.proofs.Names.{super_ends, splits, taken_none, taken_more, all_taken, part_fits}
 use Rattle.super_journal.proofs.reader.read_names.Goals as goal
-use Rattle.super_journal.proofs.reader.read_names.Goals.{then-is_full-via-then-is_full, then-is_full-via-else-is_full+then-not-is_length, then-len-eq0-via-then-len-eq0, then-len-eq0-via-else-len-eq0+then-start-bytes}
+use Rattle.super_journal.proofs.reader.read_names.Goals.{then-is_full-via-then-is_full, then-is_full-via-else-is_full+then-not-is_length}
 
-pub loop-i-init : goal.loop-i-init
-loop-i-init c = rw c.new-names.ensures (found_none c.args.bytes.now)
+pub returns-in_err-front : goal.returns-in_err-front
+returns-in_err-front c =
+    let cut = strip_suffix_is Decides-eqb c.args.bytes.now (0 ∷ []) c.strip_suffix.result c.strip_suffix.ensures.cases in
+    let none = rw c.in_err-front.was at cut in
+    rw c.from_residual.ensures (λ ns ok e. let ends = super_ends ns ok.some in none ends.0 (e ∙ ends.1))
+
+pub loop-name-init : goal.loop-name-init
+loop-name-init c = rw c.new-names.ensures taken_none
 
 pub returns-then-is_full : goal.returns-then-is_full
-returns-then-is_full c = λ ms ok e.
-    let n = c.loop-i.i - c.loop-i.start in
-    let fit : (length c.loop-i.names.items < 4) × (1 ≤ n) × (n ≤ 32) = must_fit c.args.bytes.now c.loop-i.names.items c.loop-i.start c.loop-i.i c.loop-i.invariant (omega arith) c.if-byte-ne0.false ms ok e in
+returns-then-is_full c =
+    let cut = strip_suffix_is Decides-eqb c.args.bytes.now (0 ∷ []) c.strip_suffix.result c.strip_suffix.ensures.cases in
+    let ends = rw c.in_ok-front.was at cut in
+    let road = splits c.loop-name.yielded _ c.loop-name.yielded_by c.into_iter-name-iterator.ensures.into_iter_gives c.split-name-items.ensures.rest c.split-name-items.ensures.done c.split-name-items.ensures.closure (λ x b q k. search rules) in
+    let turn = YieldsList-turn road c.loop-name.yielded _ c.loop-name.yielded_by _ _ c.in-Some.name c.in-Some.is c.next.ensures.steps in
+    let n = length c.in-Some.name.now in
+    λ ns ok e.
+    let fit = part_fits c.in_ok-front.front.now (length c.loop-name.yielded) c.in-Some.name.now turn ns ok (sym ends ∙ e) in
     elim c.then-is_full.branch [
-      | then-is_full-via-then-is_full w ↦ omega (arith, fit, eqb-true _ 4 (sym c.is_full.ensures ∙ w.if-is_full.true))
-      | then-is_full-via-else-is_full+then-not-is_length w ↦ both_ways _ w.if-not-is_length.true (w.is_length.ensures ∙ and_from (leb 1 n) (leb n 32) (le-leb 1 n fit.1) (le-leb n 32 fit.2))
+      | then-is_full-via-then-is_full w ↦ omega (arith, fit, ap length c.loop-name.invariant.all, eqb-true _ 4 (sym c.is_full.ensures ∙ w.if-is_full.true))
+      | then-is_full-via-else-is_full+then-not-is_length w ↦ both_ways _ w.if-not-is_length.true (w.is_length.ensures ∙ and_from (leb 1 n) (leb n 32) (le-leb 1 n fit.1.0) (le-leb n 32 fit.1.1))
     ]
 
-pub loop-i-preserved : goal.loop-i-preserved
-loop-i-preserved c =
-    let names = c.loop-i.names.items in
-    let n = c.loop-i.i - c.loop-i.start in
+pub loop-name-preserved : goal.loop-name-preserved
+loop-name-preserved c =
+    let names = c.loop-name.names.items in
+    let n = length c.in-Some.name.now in
     let fit = and_parts (leb 1 n) (leb n 32) (sym c.if-not-is_length.ensures) in
-    let room : length names < 4 = room (length names) c.loop-i.invariant.few c.if-is_full.ensures in
-    rw c.push.ensures
-    (found_more c.args.bytes.now names c.loop-i.start c.loop-i.i c.loop-i.invariant (omega arith) c.if-byte-ne0.false room (leb-true 1 n fit.0) (leb-true n 32 fit.1))
+    rw c.push.ensures (taken_more c.loop-name.yielded names c.in-Some.name c.loop-name.invariant (room (length names) c.loop-name.invariant.few c.if-is_full.ensures) (leb-true 1 n fit.0, leb-true n 32 fit.1))
   where
     room : (k : ℕ) → k ≤ 4 → false ≡ eqb k 4 → k < 4
     room k few not = let ne : k ≡ 4 → ⊥ = λ is. both_ways _ (sym not) (eq-eqb k 4 is) in omega arith
 
-pub returns-then-len-eq0 : goal.returns-then-len-eq0
-returns-then-len-eq0 c = λ ms ok e.
-    let b = c.args.bytes.now in
-    let names = c.loop-i.names.items in
-    elim c.then-len-eq0.branch [
-      | then-len-eq0-via-then-len-eq0 w ↦ none_found b names c.loop-i.start c.loop-i.i c.loop-i.invariant (omega arith) ms (sym c.len.ensures.is ∙ w.if-len-eq0.true) ok e
-      | then-len-eq0-via-else-len-eq0+then-start-bytes w ↦ no_end b names c.loop-i.start c.loop-i.i c.loop-i.invariant (omega arith) ms w.if-start-bytes.true ok e
-    ]
-
 pub returns : goal.returns
 returns c =
-    let names = c.loop-i.names.items in
-    let some : 1 ≤ length names = omega (arith, c.len.ensures.is) in
-    let found = all_found c.args.bytes.now names c.loop-i.start c.loop-i.i c.loop-i.invariant some c.if-start-bytes.false in
-    (found.0, found.1, c.loop-i.invariant.few)
+    let cut = strip_suffix_is Decides-eqb c.args.bytes.now (0 ∷ []) c.strip_suffix.result c.strip_suffix.ensures.cases in
+    let ends = rw c.in_ok-front.was at cut in
+    let road = splits c.loop-name.yielded _ c.loop-name.yielded_by c.into_iter-name-iterator.ensures.into_iter_gives c.split-name-items.ensures.rest c.split-name-items.ensures.done c.split-name-items.ensures.closure (λ x b q k. search rules) in
+    let end = YieldsList-end road c.loop-name.yielded _ c.loop-name.yielded_by _ _ c.in-None.is c.next.ensures.steps in
+    all_taken c.args.bytes.now c.in_ok-front.front.now c.loop-name.yielded c.loop-name.names.items c.loop-name.invariant end.0 ends

@@ -1,16 +1,16 @@
-use Rattle.std.proofs.Common.{◌≡◌, ℕ, List, sym, subst}
+use Rattle.std.proofs.Common.{◌≡◌, ℕ, List, sym, subst, Bor}
 use Rattle.std.proofs.lemmas.Option.{MatchOption-at_some}
 use Rattle.card.specs.Meaning.{Name}
-use Rattle.super_journal.specs.Super.{LawfulNames, super_journal_bytes, lying_at}
-use Rattle.journal.specs.declared.verdict.Span.{Span}
+use Rattle.super_journal.specs.Super.{LawfulNames, super_journal_bytes}
+use Rattle.super_journal.specs.Written.{texts}
 use Rattle.names.specs.Files.{how_many, file_of}
 use Rattle.survey.specs.Finds.{NoNames, Listed, Strays}
 use Rattle.set_files.specs.Looked.{never}
 use Rattle.set_files.proofs.Looks.{looked_end, looked_refused, absent_refused, told_more}
 use Rattle.survey.proofs.listing.check_list.Goals as goal
 
-ap_at : (P : List Name → Type 0) (b : List ℕ) {x y : List Span} → x ≡ y → P (lying_at b x) → P (lying_at b y)
-ap_at P b e h = subst (λ (s : List Span). P (lying_at b s)) e h
+ap_at : (P : List Name → Type 0) {x y : List (Bor (List ℕ))} → x ≡ y → P (texts x) → P (texts y)
+ap_at P e h = subst (λ (s : List (Bor (List ℕ))). P (texts s)) e h
 
 pub returns-in_err-list-clause-looked : goal.returns-in_err-list-clause-looked
 returns-in_err-list-clause-looked g c = looked_refused _ _ _ _ _ _ _ (absent_refused _ _ _ _ c.in_err-list.ensures.value c.from_residual.ensures.1).1 (looked_end _ _ _ _)
@@ -23,10 +23,10 @@ returns-clause-told g c =
     let file = file_of c.args.names.now in
     let n = how_many c.args.names.now in
     let files = g.C.Card.meaning.holds c.args.card.now in
-    let ns = lying_at b c.as_slice.result.now in
+    let ns = texts c.as_slice.result.now in
     let same = sym c.as_slice.ensures.is in
-    let lawful : LawfulNames ns = ap_at LawfulNames b same held.0 in
-    let bytes : b ≡ super_journal_bytes ns = ap_at (λ (x : List Name). b ≡ super_journal_bytes x) b same held.1 in
+    let lawful : LawfulNames ns = ap_at LawfulNames same held.0 in
+    let bytes : b ≡ super_journal_bytes ns = ap_at (λ (x : List Name). b ≡ super_journal_bytes x) same held.1 in
     told_more c.check_names.result _ (λ _. (x : List Name) × Listed files file n b x) _ (λ f k. (f ≡ 8) × (k ≡ 0) × NoNames b) _ (λ f. (f ≡ 9) × ((x : List Name) × Strays files file n b x)) _ never
     (λ v h. (ns, record { lawful = lawful; bytes = bytes; each = h })) (λ f k h. absurd h) (λ f h. (h.0, (ns, record { lawful = lawful; bytes = bytes; stray = h.1 }))) (λ f h. h)
     c.check_names.ensures.told

@@ -1,64 +1,60 @@
-use Rattle.std.proofs.Common.{◌≡◌, ℕ, ◌<◌, ◌⊎◌, [], length, get_or, None, sym, ◌∙◌, subst, arith, below_more}
+use Rattle.std.proofs.Common.{◌≡◌, ℕ, ◌<◌, ◌⊎◌, [], length, get_or, None, sym, subst, arith, below_more}
 use Rattle.card.specs.Meaning.{Name}
-use Rattle.super_journal.specs.Super.{lying_at}
+use Rattle.super_journal.specs.Written.{texts}
+use Rattle.super_journal.proofs.Listed.{text_at, length_texts}
 use Rattle.names.specs.Files.{how_many, file_of}
 use Rattle.set_files.specs.Files.{Holds, Present}
 use Rattle.set_files.specs.Looked.{never, never₂}
 use Rattle.set_files.proofs.Looks.{looked_end, looked_then, looked_same, looked_refused, told_up}
 use Rattle.survey.specs.Finds.{JournalName, Stray}
-use Rattle.survey.proofs.Listings.{lying_here, length_lying}
 use Rattle.survey.proofs.listing.check_names.Goals as goal
 
-pub loop-span-init : goal.loop-span-init
-loop-span-init g c = (looked_end _ _ _ _, λ k lt. absurd (omega arith))
+pub loop-name-init : goal.loop-name-init
+loop-name-init g c = (looked_end _ _ _ _, λ k lt. absurd (omega arith))
 
 pub returns-in_err-check_listed-clause-looked : goal.returns-in_err-check_listed-clause-looked
 returns-in_err-check_listed-clause-looked g c =
-    looked_refused _ _ _ _ _ _ _ c.from_residual.ensures.1 (looked_then _ _ _ _ _ _ _ c.loop-span.invariant.0 c.in_err-check_listed.ensures.looked)
+    looked_refused _ _ _ _ _ _ _ c.from_residual.ensures.1 (looked_then _ _ _ _ _ _ _ c.loop-name.invariant.0 c.in_err-check_listed.ensures.looked)
 
 pub returns-in_err-check_listed-clause-told : goal.returns-in_err-check_listed-clause-told
 returns-in_err-check_listed-clause-told g c =
-    let b = c.args.bytes.now in
-    let ps = c.args.places.now in
-    let i = c.loop-span.span-index in
-    let lt : i < length ps = omega arith in
+    let list = c.args.list.now in
+    let i = c.loop-name.name-index in
     let file = file_of c.args.names.now in
     let n = how_many c.args.names.now in
     let files = g.C.Card.meaning.holds c.args.card.now in
-    let ns = lying_at b ps in
-    let name : c.name_at.result.now ≡ get_or ns i [] = c.name_at.ensures ∙ sym (lying_here b ps i lt) in
-    let same = looked_same _ _ _ _ _ c.loop-span.invariant.0 in
-    let less : i < length ns = omega (arith, length_lying b ps) in
-    told_up c.from_residual.result _ _ never₂ _ _ (λ f. (f ≡ 9) × Stray files file n ns) never _ c.from_residual.ensures.1 (λ f k h. h)
+    let here : Name = (get_or list i (record { ref_ptr = (0, 0); now = [] })).now in
+    let name : here ≡ get_or (texts list) i [] = sym (text_at list i) in
+    let same = looked_same _ _ _ _ _ c.loop-name.invariant.0 in
+    let less : i < length (texts list) = omega (arith, length_texts list) in
+    told_up c.from_residual.result _ _ never₂ _ _ (λ f. (f ≡ 9) × Stray files file n (texts list)) never _ c.from_residual.ensures.1 (λ f k h. h)
     (λ f h. (
       h.0,
       (
         i,
         less,
         subst (λ (w : Name). JournalName file n w → ⊥) name h.1,
-        subst (λ (w : Name). Present (files w)) name (subst (λ (x : Holds). Present (x c.name_at.result.now)) same h.2),
+        subst (λ (w : Name). Present (files w)) name (subst (λ (x : Holds). Present (x here)) same h.2),
       ),
     ))
     (λ d h. h) c.in_err-check_listed.ensures.told
 
-pub loop-span-preserved : goal.loop-span-preserved
-loop-span-preserved g c =
-    let b = c.args.bytes.now in
-    let ps = c.args.places.now in
-    let i = c.loop-span.span-index in
-    let lt : i < length ps = omega arith in
+pub loop-name-preserved : goal.loop-name-preserved
+loop-name-preserved g c =
+    let list = c.args.list.now in
+    let i = c.loop-name.name-index in
     let file = file_of c.args.names.now in
     let n = how_many c.args.names.now in
     let files = g.C.Card.meaning.holds c.args.card.now in
-    let ns = lying_at b ps in
-    let name : c.name_at.result.now ≡ get_or ns i [] = c.name_at.ensures ∙ sym (lying_here b ps i lt) in
-    let old = c.loop-span.invariant in
+    let here : Name = (get_or list i (record { ref_ptr = (0, 0); now = [] })).now in
+    let name : here ≡ get_or (texts list) i [] = sym (text_at list i) in
+    let old = c.loop-name.invariant in
     let same = looked_same _ _ _ _ _ old.0 in (
       looked_then _ _ _ _ _ _ _ old.0 c.in_ok-check_listed.ensures.looked,
-      below_more (λ (k : ℕ). JournalName file n (get_or ns k []) ⊎ (files (get_or ns k []) ≡ None)) _ old.1
+      below_more (λ (k : ℕ). JournalName file n (get_or (texts list) k []) ⊎ (files (get_or (texts list) k []) ≡ None)) _ old.1
           (subst (λ (w : Name). JournalName file n w ⊎ (files w ≡ None)) name
-          (subst (λ (x : Holds). JournalName file n c.name_at.result.now ⊎ (x c.name_at.result.now ≡ None)) same c.in_ok-check_listed.ensures.told)),
+          (subst (λ (x : Holds). JournalName file n here ⊎ (x here ≡ None)) same c.in_ok-check_listed.ensures.told)),
     )
 
 pub returns-clause-told : goal.returns-clause-told
-returns-clause-told g c = λ k lt. c.loop-span.invariant.1 k (omega (arith, length_lying c.args.bytes.now c.args.places.now))
+returns-clause-told g c = λ k lt. c.loop-name.invariant.1 k (omega (arith, length_texts c.args.list.now))
