@@ -1,8 +1,7 @@
 -- The list of the databases that have a changed page.
 use Rattle.std.proofs.Common.{◌≡◌, ℕ, ◌<◌, ◌≤◌, List, get_or, length, sym, subst, arith}
 use Rattle.std.specs.List.{range_with_len}
-use Rattle.std.proofs.lemmas.Bool.{and_parts, ltb-true}
-use Rattle.std.proofs.lemmas.List.Elements.{All-filter, filter_passes}
+use Rattle.std.proofs.lemmas.List.Elements.{All-filter}
 use Rattle.std.proofs.lemmas.List.FromFn.{length-range_with_len, get_or-range_with_len}
 use Rattle.std.proofs.lemmas.List.Sums.{length-filter, count_by-le-length}
 use Rattle.pager.specs.declared.memory.Memory.{Memory}
@@ -14,18 +13,10 @@ unfolding changed_list
 list_few m n =
     omega (arith, length-filter (is_changed m) (range_with_len 0 n), count_by-le-length (is_changed m) (range_with_len 0 n), length-range_with_len 0 n)
 
--- each is one of the databases, and one of the memory
-pub record Listed (m : Memory) (n d : ℕ) : Type 0 where
-  pub below : d < n
-  pub known : d < m.count
-
-listed_at : (m : Memory) (n i : ℕ) → i < length (changed_list m n) → Listed m n (get_or (changed_list m n) i 0)
+-- each is one of the databases
+listed_at : (m : Memory) (n i : ℕ) → i < length (changed_list m n) → get_or (changed_list m n) i 0 < n
 unfolding changed_list
-listed_at m n i lt =
-    record {
-      below = All-filter (is_changed m) (λ d. d < n) (range_with_len 0 n) in_range i 0 lt;
-      known = ltb-true _ m.count (and_parts _ _ (filter_passes (is_changed m) (range_with_len 0 n) i 0 lt)).0;
-    }
+listed_at m n i lt = All-filter (is_changed m) (λ d. d < n) (range_with_len 0 n) in_range i 0 lt
   where
     in_range : (k d : ℕ) → k < length (range_with_len 0 n) → get_or (range_with_len 0 n) k d < n
     in_range k d low =
@@ -33,5 +24,5 @@ listed_at m n i lt =
         omega (arith, get_or-range_with_len 0 n k d short, short)
 
 -- and so in a list that is this one
-pub listed_in : (m : Memory) (n : ℕ) (list : List ℕ) → list ≡ changed_list m n → (i : ℕ) → i < length list → Listed m n (get_or list i 0)
-listed_in m n list is = subst (λ (xs : List ℕ). (i : ℕ) → i < length xs → Listed m n (get_or xs i 0)) (sym is) (listed_at m n)
+pub listed_in : (m : Memory) (n : ℕ) (list : List ℕ) → list ≡ changed_list m n → (i : ℕ) → i < length list → get_or list i 0 < n
+listed_in m n list is = subst (λ (xs : List ℕ). (i : ℕ) → i < length xs → get_or xs i 0 < n) (sym is) (listed_at m n)

@@ -57,7 +57,6 @@ impl<'a> Work<'a> {
         ensures is { result.now ≡ listed self.now }
         ensures few { count_of result.now ≤ 4 }
         ensures named { EachIndex result.now (λ k. slice_index result.now k < how_many self.now.names.now) }
-        ensures known { EachIndex result.now (λ k. slice_index result.now k < self.now.memory.now.count) }
     {
         self.changed.as_slice()
     }

@@ -42,15 +42,14 @@ impl Journals<'_> {
 
     /// Makes the journal of a database: creates it, reads the originals that it records, stores it whole
     /// with count 0, and then its count. For the crates of this repository: it wants a database of the
-    /// names and of the memory.
+    /// names.
     pub fn make<C: Card>(
         &self,
         card: &mut C,
         database: usize,
         buffer: &mut [u8; JOURNAL_LIMIT],
     ) -> Result<(), SetFault>
-        requires listed { database < how_many self.now.names.now }
-        requires known { database < self.now.memory.now.count }
+        requires { database < how_many self.now.names.now }
         ensures { Went C.Card.meaning (journal_tasks (files self.now) self.now.nonce (super_named self.now) (recorded_by self.now (contents (C.Card.meaning.holds card.old (files self.now database))) database)) card.old result card.new }
     {
         let file = self.names.file(database);

@@ -24,7 +24,7 @@ read_originals-requires g c =
 
 pub returns-in_err-read_originals : goal.returns-in_err-read_originals
 returns-in_err-read_originals g c =
-    let size : c.get-size.result ≡ size_of c.args.self.now c.args.database = c.get-size.ensures.is (omega (arith, c.requires.listed, c.args.self.now.names.now.list.few)) in
+    let size : c.get-size.result ≡ size_of c.args.self.now c.args.database = c.get-size.ensures.is (omega (arith, c.requires, c.args.self.now.names.now.list.few)) in
     let is = rw size at (c.as_slice-pages.ensures.is ∙ c.recorded_pages-recorded.ensures) in
     let name = c.bytes-2.ensures ∙ c.file-file.ensures in
     let created = went_as g.C.Card.meaning _ _ _ _ (at C2 (4 + c.args.database)) _ (files c.args.self.now (4 + c.args.database)) create create (rw c.journal_of-number.ensures at c.new-site.ensures) (rw c.journal_of-number.ensures at (c.bytes.ensures ∙ c.file-journal.ensures)) refl c.in_ok-create.ensures in
@@ -39,15 +39,15 @@ unwrap-length-requires g c =
     let small = c.get-size.ensures.small in
     let super = super_lawful c.args.self.now.super_journal c.args.self.now.named in
     not_refused _ _ _ _ _ _ c.fill_journal.result some small
-    (rw is (recorded_lawful _ c.get-size.result some small (changed_few memory c.args.database (omega (arith, c.requires.known, memory.few))))) (rw c.super_name-name.ensures super) c.read_originals.array_long c.fill_journal.ensures
+    (rw is (recorded_lawful _ c.get-size.result some small (changed_few memory c.args.database (omega (arith, c.requires, c.args.self.now.names.now.list.few))))) (rw c.super_name-name.ensures super) c.read_originals.array_long c.fill_journal.ensures
 
 pub returns : goal.returns
 returns g c =
-    let size : c.get-size.result ≡ size_of c.args.self.now c.args.database = c.get-size.ensures.is (omega (arith, c.requires.listed, c.args.self.now.names.now.list.few)) in
+    let size : c.get-size.result ≡ size_of c.args.self.now c.args.database = c.get-size.ensures.is (omega (arith, c.requires, c.args.self.now.names.now.list.few)) in
     let is = rw size at (c.as_slice-pages.ensures.is ∙ c.recorded_pages-recorded.ensures) in
     let name = c.bytes-2.ensures ∙ c.file-file.ensures in
     let created = went_as g.C.Card.meaning _ _ _ _ (at C2 (4 + c.args.database)) _ (files c.args.self.now (4 + c.args.database)) create create (rw c.journal_of-number.ensures at c.new-site.ensures) (rw c.journal_of-number.ensures at (c.bytes.ensures ∙ c.file-journal.ensures)) refl c.in_ok-create.ensures in
     let stored = went_acted g.C.Card.meaning _ _ _ _ _ _ c.told.ensures c.store_journal.ensures in
     let filled = rw (c.unwrap-length.ensures, is, size, c.super_name-name.ensures) at c.fill_journal.ensures in
-    stored_whole _ c.args.self.now c.args.database _ _ created _ _ _ _ c.requires.listed (rw (name, is) at c.in_ok-read_originals.ensures.went) (rw (name, is) at c.in_ok-read_originals.ensures.read) filled _ _
+    stored_whole _ c.args.self.now c.args.database _ _ created _ _ _ _ c.requires (rw (name, is) at c.in_ok-read_originals.ensures.went) (rw (name, is) at c.in_ok-read_originals.ensures.read) filled _ _
     (rw (c.new-site.ensures, c.bytes-3.ensures ∙ c.file-journal.ensures, c.journal_of-number.ensures, is) at stored)
