@@ -4,3 +4,5 @@ pub mod Making
 pub mod Listing
 pub mod Trying
 pub mod Sequence
+pub mod Linked
+pub mod Closing

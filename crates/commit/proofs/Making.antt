@@ -1,5 +1,5 @@
 -- The journals of all databases are made: each leaves what the databases hold.
-use Rattle.std.proofs.Common.{◌≡◌, ℕ, suc, ◌+◌, ◌<◌, List, [], ◌∷◌, get_or, length, Ok, Err, Option, refl, ap, ◌∙◌, subst, ap₂, inl, inr}
+use Rattle.std.proofs.Common.{◌≡◌, ℕ, suc, ◌+◌, ◌<◌, List, [], ◌∷◌, get_or, length, Ok, Err, Option, refl, ap, ◌∙◌, subst, inl, inr}
 use Rattle.std.specs.List.{AllByRecursion}
 use Rattle.card.specs.Meaning.{Meaning, Bytes, Name}
 use Rattle.pager.specs.declared.memory.Memory.{Memory}
@@ -38,17 +38,20 @@ module _ {C : Type 0} (m : Meaning C) (file : ℕ → Name) (nonce : ℕ) (super
     pub making_none : Making 0 c₀
     making_none = record { held = λ k lt. refl; round = λ stored s. round_none m (task_list stored) list c₀ }
 
-    module _ (i : ℕ) (c c₁ : C) (lt : i < length list) (size : ℕ) (low : get_or list i 0 < n) (is : size ≡ get_or base (get_or list i 0) 0) (apart : (k : ℕ) → k < n → file k ≡ file (4 + get_or list i 0) → ⊥) (g : Making i c) where
+    module _ (i : ℕ) (c c₁ : C) (lt : i < length list) (low : get_or list i 0 < n) (apart : (k : ℕ) → k < n → file k ≡ file (4 + get_or list i 0) → ⊥) (g : Making i c) where
       abbrev d : ℕ
       d = get_or list i 0
+
+      abbrev size : ℕ
+      size = get_or base d 0
 
       abbrev own : Change
       own = record { database = d; stored = contents (m.holds c (file d)); size = size; recorded = recorded (map_of mem.maps d) size; pages = [] }
 
       tasks_same : (stored : ℕ → Bytes) → StoredIn c₀ stored → journal_tasks file nonce super own ≡ task_list stored d
       tasks_same stored s =
-          ap₂ (λ (b : Bytes) (k : ℕ). journal_tasks file nonce super (record { database = d; stored = b; size = k; recorded = recorded (map_of mem.maps d) k; pages = [] }))
-          (ap contents (g.held d low) ∙ s d low) is
+          ap (λ (b : Bytes). journal_tasks file nonce super (record { database = d; stored = b; size = size; recorded = recorded (map_of mem.maps d) size; pages = [] }))
+          (ap contents (g.held d low) ∙ s d low)
 
       pub making_more : Went m {V = Unit {0}} (journal_tasks file nonce super own) c (Ok tt) c₁ → Making (i + 1) c₁
       making_more w =

@@ -12,6 +12,7 @@ use Rattle.names.proofs.Files.{database_is_file, super_is_file, files_apart}
 use Rattle.pager.specs.declared.memory.Memory.{Memory}
 use Rattle.refusal.specs.declared.fault.SetFault.{SetFault}
 use Rattle.refusal.specs.declared.step.Step.TheVariants.{C4}
+use Rattle.sizes.specs.declared.Sizes.{Sizes}
 use Rattle.steps.specs.Tasks.{Task, Went}
 use Rattle.steps.proofs.Went.{went_then, went_stop, went_value}
 use Rattle.steps.proofs.Held.{Spares, spared_holds}
@@ -22,7 +23,7 @@ use Rattle.commit.specs.Ended.{Committed, Dropped}
 use Rattle.commit.specs.Works.{files, listed, journals, several}
 use Rattle.commit.proofs.Turns.{each_map}
 
-module _ {C : Type 0} (m : Meaning C) (w : Work) (nonce : ℕ) (base : List ℕ) (c : C) where
+module _ {C : Type 0} (m : Meaning C) (w : Work) (c : C) where
   abbrev file : ℕ → Name
   file = files w
 
@@ -30,16 +31,16 @@ module _ {C : Type 0} (m : Meaning C) (w : Work) (nonce : ℕ) (base : List ℕ)
   stored d = contents (m.holds c (file d))
 
   abbrev change : ℕ → Change
-  change = change_of stored base w.memory.now
+  change = change_of stored w.sizes.now.rows w.memory.now
 
   abbrev chs : List Change
-  chs = changes stored base w.memory.now (how_many w.names.now)
+  chs = changes stored w.sizes.now.rows w.memory.now (how_many w.names.now)
 
   abbrev opening : List Task
   opening = cond (several w) (naming_tasks file (journals w)) []
 
   abbrev making : List Task
-  making = for_each (λ d. journal_tasks file nonce (super_of file (several w)) (change d)) (listed w)
+  making = for_each (λ d. journal_tasks file w.nonce (super_of file (several w)) (change d)) (listed w)
 
   abbrev writing : List Task
   writing = for_each (λ d. change_tasks file (change d)) (listed w)
@@ -53,11 +54,11 @@ module _ {C : Type 0} (m : Meaning C) (w : Work) (nonce : ℕ) (base : List ℕ)
   several_is : several w ≡ many chs
   several_is = ap (leb 2) (sym (length-map (listed w) change))
 
-  the_plan : plan file nonce chs ≡ opening ++ (making ++ (writing ++ closing))
+  the_plan : plan file w.nonce chs ≡ opening ++ (making ++ (writing ++ closing))
   the_plan =
-      ap (λ (b : Bool). cond b (super_tasks file chs) [] ++ (for_each (journal_tasks file nonce (super_of file b)) chs ++ (for_each (change_tasks file) chs ++ cond b (call file C4 8 delete ∷ []) (for_each (only_tasks file) chs)))) (sym several_is)
+      ap (λ (b : Bool). cond b (super_tasks file chs) [] ++ (for_each (journal_tasks file w.nonce (super_of file b)) chs ++ (for_each (change_tasks file) chs ++ cond b (call file C4 8 delete ∷ []) (for_each (only_tasks file) chs)))) (sym several_is)
       ∙ ap₂ (λ (a b : List Task). a ++ b) (ap (λ (ns : List Name). cond (several w) (naming_tasks file ns) []) (map-map (journal_name file) change (listed w)))
-      (ap₂ (λ (a b : List Task). a ++ b) (each_map (journal_tasks file nonce (super_of file (several w))) change (listed w))
+      (ap₂ (λ (a b : List Task). a ++ b) (each_map (journal_tasks file w.nonce (super_of file (several w))) change (listed w))
       (ap₂ (λ (a b : List Task). a ++ b) (each_map (change_tasks file) change (listed w))
       (ap (λ (ts : List Task). cond (several w) (call file C4 8 delete ∷ []) ts) (each_map (only_tasks file) change (listed w)))))
 
@@ -68,9 +69,9 @@ module _ {C : Type 0} (m : Meaning C) (w : Work) (nonce : ℕ) (base : List ℕ)
 
   -- the commit ended so
   abbrev pub Ends : Result ℕ SetFault → C → Type 0
-  Ends r c' = Committed m file nonce chs c r c'
+  Ends r c' = Committed m file w.nonce chs c r c'
 
-  ended : (V : Type 0) (r : Result V SetFault) (c' : C) → Went m (opening ++ (making ++ (writing ++ closing))) c r c' → Went m (plan file nonce chs) c r c'
+  ended : (V : Type 0) (r : Result V SetFault) (c' : C) → Went m (opening ++ (making ++ (writing ++ closing))) c r c' → Went m (plan file w.nonce chs) c r c'
   ended V r c' went = subst (λ (ts : List Task). Went m ts c r c') (sym the_plan) went
 
   stop : (f : SetFault) (c' : C) → Went m {V = Unit {0}} (opening ++ (making ++ (writing ++ closing))) c (Err f) c' → Ends (Err f) c'
@@ -84,7 +85,7 @@ module _ {C : Type 0} (m : Meaning C) (w : Work) (nonce : ℕ) (base : List ℕ)
   abbrev pub Making : Result (Unit {0}) SetFault → C → C → Type 0
   Making r c₁ c₂ =
       (s : ℕ → Bytes) → ((k : ℕ) → k < how_many w.names.now → contents (m.holds c₁ (file k)) ≡ s k) →
-      Went m (for_each (λ d. journal_tasks file nonce (super_of file (several w)) (change_of s base w.memory.now d)) (listed w)) c₁ r c₂
+      Went m (for_each (λ d. journal_tasks file w.nonce (super_of file (several w)) (change_of s w.sizes.now.rows w.memory.now d)) (listed w)) c₁ r c₂
 
   -- the pages were written
   abbrev pub Writing : Result (Unit {0}) SetFault → C → C → Type 0
@@ -116,11 +117,11 @@ module _ {C : Type 0} (m : Meaning C) (w : Work) (nonce : ℕ) (base : List ℕ)
 
       -- a database is refused
       pub not_written : (f : SetFault) (c₃ : C) → Writing (Err f) c₂ c₃ → Ends (Err f) c₃
-      not_written f c₃ written = stop f c₃ (after (Unit {0}) (Err f) c₃ (went_stop m writing closing c₂ c₃ f (written stored base)))
+      not_written f c₃ written = stop f c₃ (after (Unit {0}) (Err f) c₃ (went_stop m writing closing c₂ c₃ f (written stored w.sizes.now.rows)))
 
       module _ (c₃ : C) (written : Writing (Ok tt) c₂ c₃) (c₄ : C) where
         whole : (r : Result (Unit {0}) SetFault) → Went m closing c₃ r c₄ → Went m (opening ++ (making ++ (writing ++ closing))) c r c₄
-        whole r went = after (Unit {0}) r c₄ (went_then m writing closing c₂ c₃ c₄ tt r (written stored base) went)
+        whole r went = after (Unit {0}) r c₄ (went_then m writing closing c₂ c₃ c₄ tt r (written stored w.sizes.now.rows) went)
 
         -- the deletion that makes it count is refused
         pub not_closed : (f : SetFault) → Went m {V = Unit {0}} closing c₃ (Err f) c₄ → Ends (Err f) c₄
@@ -131,14 +132,13 @@ module _ {C : Type 0} (m : Meaning C) (w : Work) (nonce : ℕ) (base : List ℕ)
         counted c₅ k went dropped =
             record {
               here = c₄;
-              went = went_value m (plan file nonce chs) c c₄ tt k (ended (Unit {0}) (Ok tt) c₄ (whole (Ok tt) went));
+              went = went_value m (plan file w.nonce chs) c c₄ tt k (ended (Unit {0}) (Ok tt) c₄ (whole (Ok tt) went));
               left = subst (λ (acts : List Act). Dropped m acts c₄ k c₅) (sym the_drops) dropped;
             }
 
-  -- the same, by the names and the memory that the work was made of
+  -- the same, by what the work was made of
   pub as_given :
-      (names : Names) (mem : Memory) (r : Result ℕ SetFault) (c' : C) → w.names.now ≡ names → w.memory.now ≡ mem → Ends r c' →
-      Committed m (file_of names) nonce (changes (λ d. contents (m.holds c (file_of names d))) base mem (how_many names)) c r c'
-  as_given names mem r c' en em e =
-      subst (λ (x : Memory). Committed m (file_of names) nonce (changes (λ d. contents (m.holds c (file_of names d))) base x (how_many names)) c r c') em
-      (subst (λ (x : Names). Committed m (file_of x) nonce (changes (λ d. contents (m.holds c (file_of x d))) base w.memory.now (how_many x)) c r c') en e)
+      (names : Names) (mem : Memory) (sizes : Sizes) (nonce : ℕ) (r : Result ℕ SetFault) (c' : C) →
+      w.names.now ≡ names → w.memory.now ≡ mem → w.sizes.now ≡ sizes → w.nonce ≡ nonce → Ends r c' →
+      Committed m (file_of names) nonce (changes (λ d. contents (m.holds c (file_of names d))) sizes.rows mem (how_many names)) c r c'
+  as_given names mem sizes nonce r c' en em es e e' = rw (← en, ← em, ← es, ← e) e'

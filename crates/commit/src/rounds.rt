@@ -2,12 +2,10 @@
 //
 // Each is a short `for`: one round for all, over a closure, would have to say by clauses when the closure
 // may be called and what it leaves at each turn.
-ghost use Rattle.std.specs.Prelude.{◌≡◌, ℕ, ◌+◌, ◌<◌, List, [], ◌∷◌};
-ghost use Rattle.card.specs.Calls.Op.{delete as deletes};
+ghost use Rattle.std.specs.Prelude.{◌≡◌, ℕ, ◌<◌, List};
 ghost use Rattle.names.specs.Files.{how_many};
-ghost use Rattle.refusal.specs.declared.step.Step.TheVariants.{C4};
 ghost use Rattle.steps.specs.Tasks.{Went};
-ghost use Rattle.journaling.specs.Plan.{for_each, call, change_tasks, journal_tasks, super_of};
+ghost use Rattle.journaling.specs.Plan.{for_each, change_tasks, journal_tasks, super_of};
 ghost use Rattle.journaling.specs.Changes.{change_of, contents};
 ghost use Rattle.commit.specs.Works.{files, listed, several};
 
@@ -15,31 +13,28 @@ use crate::work::Work;
 use card::Card;
 use journal::JOURNAL_LIMIT;
 use journaling::Journals;
-use names::DATABASES;
+use names::SUPER_JOURNAL;
 use page_writer::write_pages;
-use refusal::{SetFault, Step};
-use sizes::Sizes;
-use steps::Site;
+use refusal::SetFault;
 
 impl Work<'_> {
     /// Makes the journal of each changed database. It names the super-journal if there are two or more.
     pub fn make_journals<C: Card>(
         &self,
         card: &mut C,
-        sizes: &Sizes,
-        nonce: u32,
         buffer: &mut [u8; JOURNAL_LIMIT],
     ) -> Result<(), SetFault>
-        ensures { (stored : ℕ → List ℕ) → ((k : ℕ) → k < how_many self.now.names.now → contents (C.Card.meaning.holds card.old (files self.now k)) ≡ stored k) → Went C.Card.meaning (for_each (λ d. journal_tasks (files self.now) nonce (super_of (files self.now) (several self.now)) (change_of stored sizes.now.rows self.now.memory.now d)) (listed self.now)) card.old result card.new }
+        ensures { (stored : ℕ → List ℕ) → ((k : ℕ) → k < how_many self.now.names.now → contents (C.Card.meaning.holds card.old (files self.now k)) ≡ stored k) → Went C.Card.meaning (for_each (λ d. journal_tasks (files self.now) self.now.nonce (super_of (files self.now) (several self.now)) (change_of stored self.now.sizes.now.rows self.now.memory.now d)) (listed self.now)) card.old result card.new }
     {
         let journals = Journals {
             names: self.names,
             memory: self.memory,
-            nonce,
-            linked: self.many(),
+            sizes: self.sizes,
+            nonce: self.nonce,
+            super_journal: self.many().then_some(self.names.file(SUPER_JOURNAL)),
         };
         for database in self.changed() {
-            journals.make(card, *database, sizes.get(*database), buffer)?;
+            journals.make(card, *database, buffer)?;
         }
         Ok(())
     }
@@ -50,18 +45,6 @@ impl Work<'_> {
     {
         for database in self.changed() {
             write_pages(card, self.names, self.memory, *database)?;
-        }
-        Ok(())
-    }
-
-    /// Deletes the journal of each changed database: with one, that is the deletion that makes the commit
-    /// count.
-    pub fn delete_journals<C: Card>(&self, card: &mut C) -> Result<(), SetFault>
-        ensures { Went C.Card.meaning (for_each (λ d. call (files self.now) C4 (4 + d) deletes ∷ []) (listed self.now)) card.old result card.new }
-    {
-        for database in self.changed() {
-            let journal = self.names.file(DATABASES + *database);
-            Site::new(Step::C4, DATABASES + *database).delete(card, journal.bytes())?;
         }
         Ok(())
     }

@@ -1,5 +1,5 @@
 // The super-journal of a commit: made before the journals, and deleted when all databases are safe.
-ghost use Rattle.std.specs.Prelude.{◌≡◌, ◌+◌, ◌≤◌, [], ◌∷◌, ◌++◌, map, length as count_of, take, if◌then◌else◌};
+ghost use Rattle.std.specs.Prelude.{◌≡◌, ◌+◌, [], ◌∷◌, map, if◌then◌else◌};
 ghost use Rattle.card.specs.Calls.Op.{delete as deletes};
 ghost use Rattle.super_journal.specs.Super.{super_journal_bytes as names_bytes};
 ghost use Rattle.refusal.specs.declared.step.Step.TheVariants.{C4};
@@ -11,35 +11,23 @@ ghost use Rattle.commit.specs.Works.{files, listed, journals, several};
 use crate::work::Work;
 use card::Card;
 use journal::JOURNAL_LIMIT;
-use journal_writer::put_bytes;
-use names::{DATABASES, SUPER_JOURNAL};
+use names::{SUPER_JOURNAL, journal_of};
 use refusal::{SetFault, Step};
+use set_files::delete_file;
 use steps::Site;
-
-// `put_names` of `super_journal` wants all names at once, as a list of slices; here each is made in its turn
-/// Puts a name into the buffer at a place, with the zero byte that ends it, and tells where it ends.
-fn put_ended(buffer: &mut [u8; JOURNAL_LIMIT], place: usize, name: &[u8]) -> usize
-    requires { place + count_of name.now + 1 ≤ 17724 }
-    ensures end { result ≡ place + count_of name.now + 1 }
-    ensures put { take result buffer.new ≡ take place buffer.old ++ (name.now ++ (0 ∷ [])) }
-{
-    put_bytes(buffer, place, name);
-    put_bytes(buffer, place + name.len(), &[0u8]);
-    place + name.len() + 1
-}
+use super_journal::put_ended;
 
 impl Work<'_> {
-    /// Fills the buffer with the names of the journals of the commit, and tells how long that is.
-    fn fill_super(&self, buffer: &mut [u8; JOURNAL_LIMIT]) -> usize
-        ensures few { result ≤ 17724 }
-        ensures filled { take result buffer.new ≡ names_bytes (journals self.now) }
+    /// Fills the buffer with the names of the journals of the commit, and tells these bytes.
+    fn fill_super<'b>(&self, buffer: &'b mut [u8; JOURNAL_LIMIT]) -> &'b [u8]
+        ensures { result.now ≡ names_bytes (journals self.now) }
     {
         let mut end = 0;
         for database in self.changed() {
-            let journal = self.names.file(DATABASES + *database);
+            let journal = self.names.file(journal_of(*database));
             end = put_ended(buffer, end, journal.bytes());
         }
-        end
+        &buffer[0..end]
     }
 
     /// Makes the super-journal, if two or more databases change.
@@ -53,28 +41,28 @@ impl Work<'_> {
         if !self.many() {
             return Ok(());
         }
-        let length = self.fill_super(buffer);
+        let bytes = self.fill_super(buffer);
         let file = self.names.file(SUPER_JOURNAL);
         let site = Site::new(Step::C1, SUPER_JOURNAL);
         site.create(card, file.bytes())?;
-        site.write(card, file.bytes(), 0, &buffer[0..length])?;
+        site.write(card, file.bytes(), 0, bytes)?;
         site.sync(card, file.bytes())
     }
 
-    /// Deletes the super-journal, or else the only journal: with that the commit counts.
+    /// Deletes the file whose deletion makes the commit count: the only journal, or else the super-journal.
     pub fn close<C: Card>(&self, card: &mut C) -> Result<(), SetFault>
         ensures { Went C.Card.meaning (if several self.now then call (files self.now) C4 8 deletes ∷ [] else for_each (λ d. call (files self.now) C4 (4 + d) deletes ∷ []) (listed self.now)) card.old result card.new }
     {
-        if !self.many() {
-            return self.delete_journals(card);
+        match self.changed() {
+            [] => Ok(()),
+            [database] => delete_file(card, self.names, Step::C4, journal_of(*database)),
+            _ => delete_file(card, self.names, Step::C4, SUPER_JOURNAL),
         }
-        let file = self.names.file(SUPER_JOURNAL);
-        Site::new(Step::C4, SUPER_JOURNAL).delete(card, file.bytes())
     }
 
-    /// Deletes each journal after the super-journal, going on after a refusal, and tells how many were
-    /// refused.
-    pub fn drop_journals<C: Card>(&self, card: &mut C) -> usize
+    /// Deletes each journal that became spent with the super-journal, going on after a refusal, and tells
+    /// how many were refused.
+    pub fn delete_spent_journals<C: Card>(&self, card: &mut C) -> usize
         ensures { Dropped C.Card.meaning (if several self.now then map (λ d. record { name = files self.now (4 + d); op = deletes }) (listed self.now) else []) card.old result card.new }
     {
         if !self.many() {
@@ -83,7 +71,7 @@ impl Work<'_> {
         let mut left = 0;
         // a loop: of what the closure of a `filter` did to the card a proof learns nothing
         for database in self.changed() {
-            let journal = self.names.file(DATABASES + *database);
+            let journal = self.names.file(journal_of(*database));
             if card.delete(journal.bytes()).is_err() {
                 left += 1;
             }

@@ -25,10 +25,10 @@ pub fn commit<C: Card>(
 ) -> Result<usize, SetFault>
     ensures { Committed C.Card.meaning (file_of names.now) nonce (changes (λ d. contents (C.Card.meaning.holds card.old (file_of names.now d))) sizes.now.rows memory.now (how_many names.now)) card.old result card.new }
 {
-    let work = Work::new(names, memory);
+    let work = Work::new(names, memory, sizes, nonce);
     work.open_super(card, buffer)?;
-    work.make_journals(card, sizes, nonce, buffer)?;
+    work.make_journals(card, buffer)?;
     work.write_databases(card)?;
     work.close(card)?;
-    Ok(work.drop_journals(card))
+    Ok(work.delete_spent_journals(card))
 }

@@ -1,5 +1,5 @@
-// What a commit works by: the names of the files, the memory of the transaction, and the databases that
-// have a changed page.
+// What a commit works by: the names of the files, the memory of the transaction, the sizes at the start,
+// the nonce of its journals, and the databases that have a changed page.
 ghost use Rattle.std.specs.Prelude.{◌≡◌, ◌<◌, ◌≤◌, length as count_of, EachIndex, slice_index};
 ghost use Rattle.names.specs.Files.{how_many};
 ghost use Rattle.journaling.specs.Changes.{changed_list};
@@ -8,12 +8,15 @@ use few::Few;
 use journaling::is_changed;
 use names::{DATABASES, Names};
 use pager::Memory;
+use sizes::Sizes;
 
 /// What a commit works by: the changed databases stand in a list, in order.
 #[derive(Clone, Copy)]
 pub struct Work<'a> {
     pub names: &'a Names,
     pub memory: &'a Memory,
+    pub sizes: &'a Sizes,
+    pub nonce: u32,
     changed: Few<usize, DATABASES>,
     ghost listed: { changed.items ≡ changed_list memory.now (how_many names.now) },
 }
@@ -24,10 +27,8 @@ fn changed_databases(memory: &Memory, count: usize) -> Few<usize, DATABASES>
     ensures { result.items ≡ changed_list memory.now count }
 {
     let mut changed = Few::new(0);
-    for database in 0..count {
-        if is_changed(memory, database) {
-            changed.push(database);
-        }
+    for database in (0..count).filter(|database| is_changed(memory, *database)) {
+        changed.push(database);
     }
     changed
 }
@@ -36,13 +37,17 @@ impl<'a> Work<'a> {
     ghost use Rattle.commit.specs.Works.{listed, several};
 
     /// The work of a commit of the memory.
-    pub fn new(names: &'a Names, memory: &'a Memory) -> Work<'a>
+    pub fn new(names: &'a Names, memory: &'a Memory, sizes: &'a Sizes, nonce: u32) -> Work<'a>
         ensures names { result.names.now ≡ names.now }
         ensures memory { result.memory.now ≡ memory.now }
+        ensures sizes { result.sizes.now ≡ sizes.now }
+        ensures nonce { result.nonce ≡ nonce }
     {
         Work {
             names,
             memory,
+            sizes,
+            nonce,
             changed: changed_databases(memory, names.count()),
         }
     }
@@ -52,7 +57,6 @@ impl<'a> Work<'a> {
         ensures is { result.now ≡ listed self.now }
         ensures few { count_of result.now ≤ 4 }
         ensures named { EachIndex result.now (λ k. slice_index result.now k < how_many self.now.names.now) }
-        ensures known { EachIndex result.now (λ k. slice_index result.now k < self.now.memory.now.count) }
     {
         self.changed.as_slice()
     }

@@ -14,18 +14,18 @@ use Rattle.refusal.specs.declared.step.Step.TheVariants.{C2}
 use Rattle.steps.specs.Tasks.{Task, tasks, Went, at}
 use Rattle.steps.proofs.Went.{went_then, went_stop}
 use Rattle.journaling.specs.declared.journals.Journals.{Journals}
-use Rattle.journaling.specs.Plan.{Change, original, journal_of, read_tasks, call, journal_tasks, super_of}
+use Rattle.journaling.specs.Plan.{Change, original, journal_of, read_tasks, call, journal_tasks}
 use Rattle.journaling.specs.Changes.{contents}
 use Rattle.journaling.specs.Buffers.{RecordedIn}
-use Rattle.journaling.specs.Made.{files, recorded_by}
+use Rattle.journaling.specs.Made.{files, super_named, size_of, recorded_by}
 use Rattle.journaling.proofs.Copies.{one_worked}
 
-module _ {C : Type 0} (m : Meaning C) (j : Journals) (d size : ℕ) (c c₁ : C) where
+module _ {C : Type 0} (m : Meaning C) (j : Journals) (d : ℕ) (c c₁ : C) where
   abbrev file : ℕ → Name
   file = files j
 
   abbrev ch : Change
-  ch = recorded_by j (contents (m.holds c (file d))) d size
+  ch = recorded_by j (contents (m.holds c (file d))) d
 
   abbrev made : List Task
   made = call file C2 (4 + d) create ∷ []
@@ -34,11 +34,11 @@ module _ {C : Type 0} (m : Meaning C) (j : Journals) (d size : ℕ) (c c₁ : C)
   reads = read_tasks (file d) d 1 ch.recorded
 
   abbrev stores : List Task
-  stores = tasks (at C2 (4 + d)) (store_acts (file (4 + d)) (encode 0 (journal_of j.nonce (super_of file j.linked) ch)) (length ch.recorded))
+  stores = tasks (at C2 (4 + d)) (store_acts (file (4 + d)) (encode 0 (journal_of j.nonce (super_named j) ch)) (length ch.recorded))
 
   -- all of it
   abbrev pub Made : Result (Unit {0}) SetFault → C → Type 0
-  Made r c' = Went m (journal_tasks file j.nonce (super_of file j.linked) ch) c r c'
+  Made r c' = Went m (journal_tasks file j.nonce (super_named j) ch) c r c'
 
   -- the journal is not created
   pub not_created : (f : SetFault) → Went m {V = Unit {0}} made c (Err f) c₁ → Made (Err f) c₁
@@ -51,7 +51,7 @@ module _ {C : Type 0} (m : Meaning C) (j : Journals) (d size : ℕ) (c c₁ : C)
 
     module _ (c₂ : C) (old new : Bytes) (n : ℕ) (listed : d < how_many j.names.now) (read : Went m {V = Unit {0}} reads c₁ (Ok tt) c₂)
         (lies : RecordedIn (contents (m.holds c₁ (file d))) ch.recorded (Ok tt) old)
-        (filled : Filled old j.nonce size ch.recorded (super_of file j.linked) (Ok n) new) where
+        (filled : Filled old j.nonce (size_of j d) ch.recorded (super_named j) (Ok n) new) where
       -- the database holds what it held
       held : m.holds c₁ (file d) ≡ m.holds c (file d)
       held =
@@ -59,14 +59,14 @@ module _ {C : Type 0} (m : Meaning C) (j : Journals) (d size : ℕ) (c c₁ : C)
           let apart = files_apart names d (4 + d) (database_is_file (how_many names) d listed) (journal_is_file (how_many names) d listed) (λ e. omega arith) in
           ((one_worked m c c₁ (record { name = file (4 + d); op = create }) created.ended).others (file d) apart).holds
 
-      same_journal : journal_in old j.nonce size ch.recorded (super_of file j.linked) ≡ journal_of j.nonce (super_of file j.linked) ch
+      same_journal : journal_in old j.nonce (size_of j d) ch.recorded (super_named j) ≡ journal_of j.nonce (super_named j) ch
       same_journal =
-          ap (λ (rs : List PageRecord). record { nonce = j.nonce; size = size; records = rs; super = super_of file j.linked })
+          ap (λ (rs : List PageRecord). record { nonce = j.nonce; size = size_of j d; records = rs; super = super_named j })
           (lies ∙ ap (λ (b : Bytes). map (original b) ch.recorded) (ap contents held))
 
-      pub bytes : take (n - 0) new ≡ encode 0 (journal_of j.nonce (super_of file j.linked) ch)
+      pub bytes : take (n - 0) new ≡ encode 0 (journal_of j.nonce (super_named j) ch)
       bytes =
-          let journal = journal_in old j.nonce size ch.recorded (super_of file j.linked) in
+          let journal = journal_in old j.nonce (size_of j d) ch.recorded (super_named j) in
           let long : length (encode 0 journal) ≡ n - 0 = omega (arith, filled.1) in
           ap (take (n - 0)) filled.3 ∙ take_at (encode 0 journal) _ (n - 0) long ∙ ap (encode 0) same_journal
 

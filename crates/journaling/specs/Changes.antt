@@ -1,5 +1,6 @@
 -- The databases that a commit changes, by what the memory of the transaction holds and what the files hold.
-use Rattle.std.specs.Prelude.{ℕ, zero, suc, ◌-◌, Bool, cond, ◌&&◌, List, [], ◌∷◌, ◌++◌, map, Some, None, Option, nat_le, nat_lt, slice_index}
+use Rattle.std.specs.Prelude.{ℕ, ◌-◌, Bool, ◌&&◌, List, [], ◌∷◌, map, filter, Some, None, Option, nat_le, nat_lt, slice_index}
+use Rattle.std.specs.List.{range_with_len}
 use Rattle.card.specs.Meaning.{Bytes}
 use Rattle.journal.specs.Format.{PageRecord}
 use Rattle.pager.specs.declared.memory.Memory.{Memory}
@@ -42,8 +43,7 @@ change_of stored base m d = record {
 
 -- the numbers of those of the first n databases that have a changed page, ascending
 unfoldable pub changed_list : Memory → ℕ → List ℕ
-changed_list m zero = []
-changed_list m (suc d) = changed_list m d ++ cond (is_changed m d) (d ∷ []) []
+changed_list m n = filter (is_changed m) (range_with_len 0 n)
 
 -- what a commit does to them, in order
 abbrev pub changes : (ℕ → Bytes) → List ℕ → Memory → ℕ → List Change

@@ -10,6 +10,7 @@ ghost use Rattle.journaling.specs.Buffers.{Copied, RecordedIn, PagesOk};
 
 use card::Card;
 use journal::{JOURNAL_LIMIT, PAGE, record_place};
+use page_map::page_place;
 use refusal::{SetFault, Step};
 use steps::Site;
 
@@ -33,7 +34,7 @@ fn read_original<C: Card>(
     site.read(
         card,
         name,
-        (page - 1) * PAGE as u32,
+        page_place(page),
         &mut buffer[start..start + PAGE],
     )
 }

@@ -1,7 +1,7 @@
 // The files of a set, by their numbers: calls of the card on them, and a journal that was read from one.
 //
 // The parts of a recovery stand on this: the crate `survey` looks at the files, `settling` settles what
-// was found, and `recovery` puts them together.
+// was found, and `recovery` puts them together. A commit deletes by it.
 #![tactic(auto)]
 
 mod numbered;

@@ -1,18 +1,25 @@
-use Rattle.std.proofs.Common.{length, sym, ap, ◌∙◌, arith}
-use Rattle.commit.proofs.Listed.{none_listed, list_skip, list_more, list_few}
+use Rattle.std.proofs.Common.{length, sym, ap, ◌∙◌, arith, rules, tests}
+use Rattle.std.proofs.lemmas.Iterator.{YieldsList-from_range}
+use Rattle.std.proofs.lemmas.Iterator.Consumers.{YieldsList-at, YieldsList-from_filter, YieldsList-turn, YieldsList-end}
+use Rattle.std.proofs.lemmas.List.{map-id}
+use Rattle.journaling.specs.Changes.{is_changed, changed_list}
+use Rattle.commit.proofs.Listed.{list_few}
 use Rattle.commit.proofs.work.changed_databases.Goals as goal
 
-pub loop-database-init : goal.loop-database-init
-loop-database-init c = c.new-changed.ensures ∙ sym (none_listed _)
-
 pub push-requires : goal.push-requires
-push-requires c = omega (arith, ap length c.loop-database.invariant, list_few c.args.memory.now c.loop-database.database, c.requires)
+unfolding changed_list
+push-requires c =
+    let turn = YieldsList-turn
+    (YieldsList-at c.into_iter-database-iterator.ensures.into_iter_gives
+    (YieldsList-from_filter _ (is_changed c.args.memory.now) (YieldsList-from_range 0 c.args.count c.args.count c.filter-database-items.ensures.source (omega arith)) c.filter-database-items.ensures.closure (λ x r q k. search (rules, tests))))
+    c.loop-database.yielded _ c.loop-database.yielded_by _ _ _ c.in-Some.is c.next.ensures.steps in
+    omega (arith, turn.0, list_few c.args.memory.now c.args.count, c.requires, ap length c.loop-database.invariant.2)
 
-pub loop-database-preserved : goal.loop-database-preserved
-loop-database-preserved c =
-    let m = c.args.memory.now in
-    let d = c.loop-database.database in
-    elim c.if-is_changed.branch [
-      | goal.then-is_changed w ↦ let more = list_more m d (sym c.is_changed.ensures ∙ w.if-is_changed.true) in cc
-      | goal.else-is_changed w ↦ let same = list_skip m d (sym c.is_changed.ensures ∙ w.if-is_changed.false) in cc
-    ]
+pub returns : goal.returns
+unfolding changed_list
+returns c =
+    let seen = YieldsList-end
+    (YieldsList-at c.into_iter-database-iterator.ensures.into_iter_gives
+    (YieldsList-from_filter _ (is_changed c.args.memory.now) (YieldsList-from_range 0 c.args.count c.args.count c.filter-database-items.ensures.source (omega arith)) c.filter-database-items.ensures.closure (λ x r q k. search (rules, tests))))
+    c.loop-database.yielded _ c.loop-database.yielded_by _ _ c.in-None.is c.next.ensures.steps in
+    c.loop-database.invariant.2 ∙ sym (map-id c.loop-database.yielded) ∙ seen.0

@@ -9,6 +9,5 @@ returns c =
     record {
       is = is;
       few = c.as_slice.ensures.few;
-      named = λ i lt. (listed_in _ _ _ is i lt).below;
-      known = λ i lt. (listed_in _ _ _ is i lt).known;
+      named = λ i lt. listed_in _ _ _ is i lt;
     }

@@ -6,4 +6,4 @@ use Rattle.commit.proofs.work.Work.make_journals.Given as goal
 
 abbrev pub invariant-loop-database : goal.invariant-loop-database
 invariant-loop-database g l =
-    Making g.C.Card.meaning (files l.self) l.nonce (super_of (files l.self) (several l.self)) l.self.memory.now l.sizes.rows (how_many l.self.names.now) l.database-items l.initial.card l.database-index l.card
+    Making g.C.Card.meaning (files l.self) l.self.nonce (super_of (files l.self) (several l.self)) l.self.memory.now l.self.sizes.now.rows (how_many l.self.names.now) l.database-items l.initial.card l.database-index l.card

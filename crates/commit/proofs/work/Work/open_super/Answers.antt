@@ -1,5 +1,4 @@
-use Rattle.std.proofs.Common.{◌≡◌, ℕ, false, true, [], ◌∷◌, take, sym, refl, ap, ◌∙◌}
-use native.Mathlib.Nat.{sub-zero}
+use Rattle.std.proofs.Common.{◌≡◌, false, true, [], ◌∷◌, sym, refl, ap, ◌∙◌}
 use Rattle.std.proofs.lemmas.Result.{err_from_is_err_and}
 use Rattle.card.specs.Calls.{create, write}
 use Rattle.steps.proofs.Went.{went_end, went_then, went_stop, went_as}
@@ -23,17 +22,15 @@ returns-in_err-write g c =
     let two : several c.args.self.now ≡ true = sym c.many.ensures ∙ c.if-not-many.false in
     let p = err_from_is_err_and c.from_residual-in_err-write.result c.from_residual-in_err-write.ensures.1 in
     let created = went_as g.C.Card.meaning _ _ _ _ _ _ _ create create c.new-site.ensures (c.bytes.ensures ∙ c.file-file.ensures) refl c.in_ok-create.ensures in
-    let bytes = ap (λ (k : ℕ). take k c.fill_super-length.new.buffer) (sub-zero c.fill_super-length.result) ∙ c.fill_super-length.ensures.filled in
     rw (two, p.1, p.2)
     (went_then _ (_ ∷ []) _ _ _ _ tt _ created
-    (went_stop _ (_ ∷ []) _ _ _ _ (went_as _ _ _ _ _ _ _ _ _ _ c.new-site.ensures (c.bytes-2.ensures ∙ c.file-file.ensures) (ap (write 0) bytes) c.in_err-write.ensures)))
+    (went_stop _ (_ ∷ []) _ _ _ _ (went_as _ _ _ _ _ _ _ _ _ _ c.new-site.ensures (c.bytes-2.ensures ∙ c.file-file.ensures) (ap (write 0) c.fill_super-bytes.ensures) c.in_err-write.ensures)))
 
 pub returns : goal.returns
 returns g c =
     let two : several c.args.self.now ≡ true = sym c.many.ensures ∙ c.if-not-many.false in
     let created = went_as g.C.Card.meaning _ _ _ _ _ _ _ create create c.new-site.ensures (c.bytes.ensures ∙ c.file-file.ensures) refl c.in_ok-create.ensures in
-    let bytes = ap (λ (k : ℕ). take k c.fill_super-length.new.buffer) (sub-zero c.fill_super-length.result) ∙ c.fill_super-length.ensures.filled in
-    let put = went_as g.C.Card.meaning _ _ _ _ _ _ _ _ _ c.new-site.ensures (c.bytes-2.ensures ∙ c.file-file.ensures) (ap (write 0) bytes) c.in_ok-write.ensures in
+    let put = went_as g.C.Card.meaning _ _ _ _ _ _ _ _ _ c.new-site.ensures (c.bytes-2.ensures ∙ c.file-file.ensures) (ap (write 0) c.fill_super-bytes.ensures) c.in_ok-write.ensures in
     rw two
     (went_then _ (_ ∷ []) _ _ _ _ tt _ created
     (went_then _ (_ ∷ []) _ _ _ _ tt _ put (went_as _ _ _ _ _ _ _ _ _ _ c.new-site.ensures (c.bytes-3.ensures ∙ c.file-file.ensures) refl c.sync.ensures)))

@@ -4,7 +4,7 @@ use Rattle.card.specs.Calls.{Called, cause_of, delete}
 use Rattle.card.specs.Runs.{Act}
 use Rattle.commit.specs.Works.{files, several}
 use Rattle.commit.proofs.Trying.{dropped_none, trying_more, trying_all, ill, well}
-use Rattle.commit.proofs.work.Work.drop_journals.Goals as goal
+use Rattle.commit.proofs.work.Work.delete_spent_journals.Goals as goal
 
 pub returns-then-not-many : goal.returns-then-not-many
 returns-then-not-many g c =
@@ -22,7 +22,7 @@ loop-database-preserved g c =
     let n = c.loop-database.left in
     let r = c.delete.result in
     let act : ℕ → Act = λ k. record { name = file (4 + k); op = delete } in
-    let name : c.bytes.result.now ≡ file (4 + get_or list i 0) = c.bytes.ensures ∙ c.file-journal.ensures in
+    let name : c.bytes.result.now ≡ file (4 + get_or list i 0) = rw c.journal_of.ensures at (c.bytes.ensures ∙ c.file-journal.ensures) in
     let called = subst (λ (x : Name). Called g.C.Card.meaning c.loop-database.card x delete (cause_of r) c.delete.new.self) name c.delete.ensures.called in
     let more = λ (k : ℕ). trying_more g.C.Card.meaning act list c.args.card.now i n k c.loop-database.card c.delete.new.self (cause_of r) c.loop-database-test.true c.loop-database.invariant.0 called c.delete.ensures.origins in
     elim c.if-is_err.branch [

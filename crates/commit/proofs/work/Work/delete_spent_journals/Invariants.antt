@@ -2,7 +2,7 @@ use Rattle.std.proofs.Common.{◌+◌, ◌≤◌}
 use Rattle.card.specs.Calls.{delete}
 use Rattle.commit.specs.Works.{files}
 use Rattle.commit.proofs.Trying.{Trying}
-use Rattle.commit.proofs.work.Work.drop_journals.Given as goal
+use Rattle.commit.proofs.work.Work.delete_spent_journals.Given as goal
 
 abbrev pub invariant-loop-database : goal.invariant-loop-database
 invariant-loop-database g l =
