@@ -44,6 +44,7 @@ pub fn content(slot: &[u8]) -> &[u8]
     ensures small { count result.now < 2 ^ 32 }
 {
     let length = slot[FILE_LENGTH..].first_chunk::<4>().unwrap();
+    // `as` here and below: no `From` leads from u32 to usize, nor down, and the check proves that no cast loses a bit.
     let stored = u32::from_be_bytes(*length) as usize;
     let room = &slot[HEAD..];
     &room[..stored.min(room.len())]

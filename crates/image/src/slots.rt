@@ -78,6 +78,7 @@ pub fn present(image: &[u8], name: &[u8]) -> Result<usize, Cause>
 fn ends_within(place: u32, bytes: usize, limit: usize) -> bool
     ensures { result ≡ nat_le (place + bytes) limit }
 {
+    // `as` here and below, as in a slot: no `From` leads from u32 to usize, nor down.
     bytes <= limit && place as usize <= limit - bytes
 }
 
