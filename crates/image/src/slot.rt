@@ -20,6 +20,7 @@ pub const FILE_LENGTH: usize = 33;
 // again, its clauses say `self.exit.0.now` for `slot.new`, and for reading there has to be a second struct.
 
 /// Whether the slot is free for a file.
+#[tactic(auto, unfolding(crate::specs::Layout::free))]
 pub fn is_free(slot: &[u8]) -> bool
     ensures { result ≡ free slot.now }
 {

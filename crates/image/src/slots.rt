@@ -31,6 +31,7 @@ fn bounds(image: &[u8], k: usize) -> Range<usize>
 }
 
 /// A slot of the image. For the crates of this repository: it wants one of the 16.
+#[tactic(auto, using(crate::proofs::Slices::slot_part))]
 pub fn slot_at(image: &[u8], k: usize) -> &[u8]
     requires { k < 16 }
     ensures is { result.now ≡ slot_of image.now k }
