@@ -1,17 +1,18 @@
 -- What the synced half has of each file, as calls change the halves.
-use Rattle.std.proofs.Common.{◌≡◌, ℕ, zero, suc, ◌<◌, Bool, true, false, cond, Some, None, Option, Result, sym, refl, ap, ◌∙◌, subst}
+use Rattle.std.proofs.Common.{◌≡◌, ℕ, zero, suc, ◌<◌, Bool, true, false, cond, Some, None, Err, Option, Result, sym, refl, ap, ◌∙◌, subst}
 use Rattle.card.specs.declared.fault.Cause.{Cause}
+use Rattle.card.specs.declared.fault.Cause.TheVariants.{Absent}
 use native.Mathlib.Decide.{ℕ_discrete}
 use Rattle.std.proofs.lemmas.Bool.{both_ways}
 use Rattle.card.specs.Meaning.{Bytes, Name}
-use Rattle.card.specs.Calls.{Op, create, sync, delete}
+use Rattle.card.specs.Calls.{Op, create, sync, delete, test}
 use Rattle.card.proofs.Every.{some_none}
 use Rattle.image.specs.Layout.{named, content, slot, held, first_of, or_else, FirstSlot}
-use Rattle.image.specs.Stored.{Done, Stored, Left, refusal, moves}
+use Rattle.image.specs.Stored.{Done, Stored, Left, PresentAt, refusal, moves}
 use Rattle.halves.specs.Halves.{backed, backing, PairDone, PairLeft, Paired, Settled}
 use Rattle.image.proofs.Named.{not_named}
 use Rattle.image.proofs.First.{first_same, first_at}
-use Rattle.image.proofs.Files.{held_at, held_none, done_looked}
+use Rattle.image.proofs.Files.{held_at, held_none, answer_absent, done_looked}
 
 -- whether a slot of the name is found does not hang on what belongs to it
 or_none : (a b : Option Bytes) → or_else a b ≡ None → (a ≡ None) × (b ≡ None)
@@ -76,6 +77,13 @@ stored_paired op n current synced {r} {current'} stored still keeps = record { a
     by : (x : Option Cause) → Left x op n current current' → PairLeft x op n current synced current' synced
     by None done = pair_stays op n current synced current' done still keeps
     by (Some x) e = (e, refl)
+
+-- an absent file's refusal that a call passes up, with both halves as they were
+pub passed_paired :
+    {V : Type 0} (op : Op) (n : Name) (current synced current' synced' : Bytes) (r : Result V Cause) (x : Cause) → (y : Cause) × (r ≡ Err y) × (y ≡ x) → PresentAt n current (Err x) →
+    test op None ≡ Some Absent → current' ≡ current → synced' ≡ synced → Paired {V = V} op n current synced r current' synced'
+passed_paired op n current synced current' synced' r x passed why absent same same-synced =
+    rw (passed.1, passed.2) (record { answer = answer_absent current n op x why.0 why.1 absent; left = (same, same-synced) })
 
 pub pair_synced : (n : Name) (current synced synced' : Bytes) (k : ℕ) → FirstSlot (named n) current (Some k) → Settled current synced k synced' → PairDone sync n current synced current synced'
 pair_synced n current synced synced' k found settled =

@@ -11,41 +11,6 @@ use Rattle.image.proofs.Named.{named_front, free_front, named_parts}
 use Rattle.image.proofs.First.{first_same, first_none, free_same}
 use Rattle.image.proofs.Slices.{slot_put, slot_other, put_length, length_slot}
 
-module _ (kept : Kept) (current synced : Bytes) where
-  pub kept_none : KeptBelow kept current synced 0 current synced
-  kept_none =
-      record {
-        long = refl;
-        long_synced = refl;
-        name = λ j lt. absurd (omega arith);
-        bytes = λ j lt. absurd (omega arith);
-        alike = λ j lt. absurd (omega arith);
-        rest = λ j le lt. refl;
-        rest_synced = λ j le lt. refl;
-      }
-
-  -- one slot more
-  pub kept_more : (k : ℕ) (current' synced' current'' synced'' : Bytes) → k < 16 → KeptBelow kept current synced k current' synced' → SlotKept kept k current' synced' current'' synced'' → KeptBelow kept current synced (k + 1) current'' synced''
-  kept_more k current' synced' current'' synced'' in_image so_far done =
-      record {
-        long = done.long ∙ so_far.long;
-        long_synced = done.settled.long ∙ so_far.long_synced;
-        name = below_more _ k (λ j lt. ap (take 33) (done.others j (omega arith) (λ e. omega arith)) ∙ so_far.name j lt) (done.name ∙ ap (take 33) was);
-        bytes =
-            below_more _ k (λ j lt. ap content (done.others j (omega arith) (λ e. omega arith)) ∙ so_far.bytes j lt)
-            (done.bytes ∙ ap₂ (λ (a b : Bytes). kept_content kept (content a) (content b)) was was_synced);
-        alike =
-            below_more _ k (λ j lt. done.settled.there j (omega arith) (λ e. omega arith) ∙ so_far.alike j lt ∙ sym (done.others j (omega arith) (λ e. omega arith))) done.settled.here;
-        rest = λ j le lt. done.others j lt (λ e. omega arith) ∙ so_far.rest j (omega arith) lt;
-        rest_synced = λ j le lt. done.settled.there j lt (λ e. omega arith) ∙ so_far.rest_synced j (omega arith) lt;
-      }
-    where
-      was : slot current' k ≡ slot current k
-      was = so_far.rest k (omega arith) in_image
-
-      was_synced : slot synced' k ≡ slot synced k
-      was_synced = so_far.rest_synced k (omega arith) in_image
-
 -- a slot of the synced half is written over by the current one's
 pub settled_put : (current synced synced' new : Bytes) (k : ℕ) → k < 16 → new ≡ slot current k → length new ≡ slot_size synced → synced' ≡ overwrite synced (k * slot_size synced) new → Settled current synced k synced'
 settled_put current synced synced' new k in_image is whole put =

@@ -79,6 +79,7 @@ impl Halves<'_> {
     }
 
     /// How many bytes the file has; none if it is absent.
+    #[tactic(auto, using(crate::proofs::Backed::stored_paired))]
     pub fn length(&mut self, name: &[u8]) -> Result<Option<u32>, Cause>
         ensures paired { Answers length_of name.now self.old result self.new }
         ensures size { count self.new.current.now ≡ count self.old.current.now }
@@ -88,6 +89,7 @@ impl Halves<'_> {
     }
 
     /// Fills the buffer with the file's bytes from a place on.
+    #[tactic(auto, using(crate::proofs::Backed::stored_paired))]
     pub fn read(&mut self, name: &[u8], place: u32, buffer: &mut [u8]) -> Result<(), Cause>
         ensures paired { Answers (reading place (count buffer.old)) name.now self.old result self.new }
         ensures size { count self.new.current.now ≡ count self.old.current.now }
@@ -109,6 +111,7 @@ impl Halves<'_> {
     }
 
     /// Puts bytes into the file from a place on.
+    #[tactic(auto, using(crate::proofs::Backed::stored_paired))]
     pub fn write(&mut self, name: &[u8], place: u32, bytes: &[u8]) -> Result<(), Cause>
         ensures paired { Answers (writing place bytes.now) name.now self.old result self.new }
         ensures size { count self.new.current.now ≡ count self.old.current.now }
@@ -117,6 +120,7 @@ impl Halves<'_> {
     }
 
     /// Cuts the file, or fills it with zeros, to a length.
+    #[tactic(auto, using(crate::proofs::Backed::stored_paired))]
     pub fn set_length(&mut self, name: &[u8], length: u32) -> Result<(), Cause>
         ensures paired { Answers (set_length length) name.now self.old result self.new }
         ensures size { count self.new.current.now ≡ count self.old.current.now }

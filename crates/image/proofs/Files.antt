@@ -1,5 +1,5 @@
 -- What an image holds of a file, by the slot that has its name; and what a change of one slot does.
-use Rattle.std.proofs.Common.{◌≡◌, ℕ, suc, ◌*◌, ◌<◌, Bool, true, false, eqb, [], length, take, Some, None, Err, Option, MatchOption, IsSomeAnd, sym, refl, ap, ◌∙◌, subst, ap₂, ⊎_elim, arith}
+use Rattle.std.proofs.Common.{◌≡◌, ℕ, suc, ◌*◌, ◌<◌, Bool, true, false, eqb, [], length, take, Some, None, Err, Option, Result, MatchOption, IsSomeAnd, sym, refl, ap, ◌∙◌, subst, ap₂, ⊎_elim, arith}
 use native.Mathlib.Decide.{ℕ_discrete}
 use Rattle.std.specs.Str.{bytes_eq}
 use Rattle.std.proofs.lemmas.Slice.Eq.{bytes_eq-Decides}
@@ -140,6 +140,12 @@ module _ (image : Bytes) (n : Name) where
 -- a refusal leaves the image
 pub refused : {V : Type 0} (op : Op) (n : Name) (image : Bytes) (x : Cause) → Some x ≡ answer_of op n image → Stored {V = V} op n image (Err x) image
 refused op n image x is = record { answer = is; left = refl }
+
+-- an absent file's refusal that a call passes up
+pub refused_passed :
+    {V : Type 0} (op : Op) (n : Name) (image : Bytes) (r : Result V Cause) (x : Cause) → (y : Cause) × (r ≡ Err y) × (y ≡ x) → FirstSlot (named n) image None × (Some x ≡ after_name (name_ok n) (Some Absent)) →
+    test op None ≡ Some Absent → Stored {V = V} op n image r image
+refused_passed op n image r x passed why absent = rw (passed.1, passed.2) (refused op n image x (answer_absent image n op x why.0 why.1 absent))
 
 -- a call that only looks does so by its answer alone
 pub done_looked : (op : Op) (n : Name) (image : Bytes) → held image n ≡ worked op (held image n) → ((k : ℕ) → Frees op k k) → Done op n image image

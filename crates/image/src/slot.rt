@@ -20,6 +20,7 @@ pub const FILE_LENGTH: usize = 33;
 // again, its clauses say `self.exit.0.now` for `slot.new`, and for reading there has to be a second struct.
 
 /// Whether the slot is free for a file.
+#[tactic(auto, unfolding(crate::specs::Layout::free))]
 pub fn is_free(slot: &[u8]) -> bool
     ensures { result ≡ free slot.now }
 {
@@ -44,6 +45,7 @@ pub fn content(slot: &[u8]) -> &[u8]
     ensures small { count result.now < 2 ^ 32 }
 {
     let length = slot[FILE_LENGTH..].first_chunk::<4>().unwrap();
+    // `as` here and below: no `From` leads from u32 to usize, nor down, and the check proves that no cast loses a bit.
     let stored = u32::from_be_bytes(*length) as usize;
     let room = &slot[HEAD..];
     &room[..stored.min(room.len())]

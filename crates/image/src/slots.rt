@@ -31,6 +31,7 @@ fn bounds(image: &[u8], k: usize) -> Range<usize>
 }
 
 /// A slot of the image. For the crates of this repository: it wants one of the 16.
+#[tactic(auto, using(crate::proofs::Slices::slot_part))]
 pub fn slot_at(image: &[u8], k: usize) -> &[u8]
     requires { k < 16 }
     ensures is { result.now ≡ slot_of image.now k }
@@ -78,6 +79,7 @@ pub fn present(image: &[u8], name: &[u8]) -> Result<usize, Cause>
 fn ends_within(place: u32, bytes: usize, limit: usize) -> bool
     ensures { result ≡ nat_le (place + bytes) limit }
 {
+    // `as` here and below, as in a slot: no `From` leads from u32 to usize, nor down.
     bytes <= limit && place as usize <= limit - bytes
 }
 

@@ -32,14 +32,14 @@ returns-in_default c =
     let ok = sym c.is_name.ensures ∙ c.if-not-is_name.false in
     refused create n image _ (sym (answer_named image n create none ok ∙ ap (or_device None) (crowded_none image c.in_default.ensures)))
 
-pub at_slot-requires : goal.at_slot-requires
-at_slot-requires c =
+pub at_slot-requires-clause-callable : goal.at_slot-requires-clause-callable
+at_slot-requires-clause-callable c =
     let ok = sym c.is_name.ensures ∙ c.if-not-is_name.false in
     let vacant = c.in-Some.ensures in
     let head : 37 ≤ length (slot c.args.image.now c.in-Some.k) = free_head (slot c.args.image.now c.in-Some.k) vacant.1 in
     let some : 1 ≤ length c.args.name.now = grind (arith, nat_tests, ok) in
     let short : length c.args.name.now ≤ 32 = grind (arith, nat_tests, ok) in
-    record { within = vacant.0; callable = λ p is. let at : 37 ≤ length p.now = rw is head in search (rules, at, some, short) }
+    λ p is. let at : 37 ≤ length p.now = rw is head in search (rules, at, some, short)
 
 pub returns : goal.returns
 returns c =

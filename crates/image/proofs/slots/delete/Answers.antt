@@ -1,15 +1,12 @@
 use Rattle.std.proofs.Common.{sym, refl}
 use Rattle.std.proofs.lemmas.Result.{err_from_is_err_and}
 use Rattle.card.specs.Calls.{delete}
-use Rattle.image.proofs.Files.{answer_at, answer_absent, refused}
+use Rattle.image.proofs.Files.{answer_at, refused_passed}
 use Rattle.image.proofs.Freeing.{done_deleted}
 use Rattle.image.proofs.slots.delete.Goals as goal
 
 pub returns-in_err-present : goal.returns-in_err-present
-returns-in_err-present c =
-    let p = err_from_is_err_and c.from_residual.result c.from_residual.ensures.1 in
-    let why = c.in_err-present.ensures in
-    rw (p.1, p.2) (refused delete c.args.name.now c.args.image.now _ (answer_absent c.args.image.now c.args.name.now delete _ why.0 why.1 refl))
+returns-in_err-present c = refused_passed delete c.args.name.now c.args.image.now _ _ (err_from_is_err_and c.from_residual.result c.from_residual.ensures.1) c.in_err-present.ensures refl
 
 pub returns : goal.returns
 returns c =

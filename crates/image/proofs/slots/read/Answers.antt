@@ -4,16 +4,11 @@ use Rattle.card.specs.Meaning.{Bytes}
 use Rattle.card.specs.Calls.{read, part_of, part}
 use Rattle.image.specs.Layout.{content, slot}
 use Rattle.image.proofs.Named.{named_parts}
-use Rattle.image.proofs.Files.{held_at, answer_absent, answer_range, answer_room, done_looked, refused}
+use Rattle.image.proofs.Files.{held_at, answer_range, answer_room, done_looked, refused, refused_passed}
 use Rattle.image.proofs.slots.read.Goals as goal
 
-pub returns-in_err-k : goal.returns-in_err-k
-returns-in_err-k c =
-    let p = err_from_is_err_and c.from_residual.result c.from_residual.ensures.1 in
-    let why = c.in_err-k.ensures in
-    let op = read c.args.place (length c.args.buffer.now) in
-    rw (p.1, p.2)
-    (record { stored = refused op c.args.name.now c.args.image.now _ (answer_absent c.args.image.now c.args.name.now op _ why.0 why.1 refl); told = refl })
+pub returns-in_err-k-clause-stored : goal.returns-in_err-k-clause-stored
+returns-in_err-k-clause-stored c = refused_passed (read c.args.place (length c.args.buffer.now)) c.args.name.now c.args.image.now _ _ (err_from_is_err_and c.from_residual.result c.from_residual.ensures.1) c.in_err-k.ensures refl
 
 pub content-file-requires : goal.content-file-requires
 content-file-requires c =

@@ -5,15 +5,11 @@ use Rattle.card.specs.Calls.{set_length, resized, file_limit}
 use Rattle.image.specs.Layout.{content, slot, room}
 use Rattle.image.proofs.Named.{named_parts}
 use Rattle.image.proofs.Slices.{length_slot}
-use Rattle.image.proofs.Files.{answer_absent, answer_range, answer_room, done_changed, refused}
+use Rattle.image.proofs.Files.{answer_range, answer_room, done_changed, refused, refused_passed}
 use Rattle.image.proofs.slots.set_length.Goals as goal
 
 pub returns-in_err-k : goal.returns-in_err-k
-returns-in_err-k c =
-    let p = err_from_is_err_and c.from_residual.result c.from_residual.ensures.1 in
-    let why = c.in_err-k.ensures in
-    let op = set_length c.args.length in
-    rw (p.1, p.2) (refused op c.args.name.now c.args.image.now _ (answer_absent c.args.image.now c.args.name.now op _ why.0 why.1 refl))
+returns-in_err-k c = refused_passed (set_length c.args.length) c.args.name.now c.args.image.now _ _ (err_from_is_err_and c.from_residual.result c.from_residual.ensures.1) c.in_err-k.ensures refl
 
 pub returns-then-length-gt-FILE_LIMIT : goal.returns-then-length-gt-FILE_LIMIT
 returns-then-length-gt-FILE_LIMIT c =
@@ -29,8 +25,8 @@ returns-then-length-room c =
     refused op c.args.name.now image _
     (sym (answer_room image c.args.name.now op c.in_ok-k.k _ true c.in_ok-k.ensures refl (le-leb c.args.length file_limit c.if-length-gt-FILE_LIMIT.false) full))
 
-pub at_slot-requires : goal.at_slot-requires
-at_slot-requires c =
+pub at_slot-requires-clause-callable : goal.at_slot-requires-clause-callable
+at_slot-requires-clause-callable c =
     let image = c.args.image.now in
     let k = c.in_ok-k.k in
     let found = c.in_ok-k.ensures in
@@ -38,10 +34,7 @@ at_slot-requires c =
     let long = length_slot image k found.0 in
     let fits : 37 + c.args.length ≤ length (slot image k) = omega (arith, c.room.ensures) in
     let small : c.args.length < 2 ^ 32 = omega arith in
-    record {
-      within = found.0;
-      callable = λ p is. let room : 37 + c.args.length ≤ length p.now = rw is fits in search (rules, room, small);
-    }
+    λ p is. let room : 37 + c.args.length ≤ length p.now = rw is fits in search (rules, room, small)
 
 pub returns : goal.returns
 returns c =

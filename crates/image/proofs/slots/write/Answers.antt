@@ -7,15 +7,11 @@ use Rattle.card.proofs.Tested.{passed_both}
 use Rattle.image.specs.Layout.{content, slot, room}
 use Rattle.image.proofs.Named.{named_parts}
 use Rattle.image.proofs.Slices.{length_slot}
-use Rattle.image.proofs.Files.{answer_absent, answer_range, answer_room, done_changed, refused}
+use Rattle.image.proofs.Files.{answer_range, answer_room, done_changed, refused, refused_passed}
 use Rattle.image.proofs.slots.write.Goals as goal
 
 pub returns-in_err-k : goal.returns-in_err-k
-returns-in_err-k c =
-    let p = err_from_is_err_and c.from_residual.result c.from_residual.ensures.1 in
-    let why = c.in_err-k.ensures in
-    let op = write c.args.place c.args.bytes.now in
-    rw (p.1, p.2) (refused op c.args.name.now c.args.image.now _ (answer_absent c.args.image.now c.args.name.now op _ why.0 why.1 refl))
+returns-in_err-k c = refused_passed (write c.args.place c.args.bytes.now) c.args.name.now c.args.image.now _ _ (err_from_is_err_and c.from_residual.result c.from_residual.ensures.1) c.in_err-k.ensures refl
 
 pub content-requires : goal.content-requires
 content-requires c =
@@ -44,8 +40,8 @@ returns-then-not-ends_within c =
     let full = lt-ltb (room image) (c.args.place + length bytes) (omega (arith, over, c.room.ensures)) in
     refused op c.args.name.now image _ (sym (answer_room image c.args.name.now op c.in_ok-k.k _ true c.in_ok-k.ensures refl within full))
 
-pub at_slot-requires : goal.at_slot-requires
-at_slot-requires c =
+pub at_slot-requires-clause-callable : goal.at_slot-requires-clause-callable
+at_slot-requires-clause-callable c =
     let image = c.args.image.now in
     let k = c.in_ok-k.k in
     let place = c.args.place in
@@ -59,14 +55,11 @@ at_slot-requires c =
     let fits : 37 + place + length bytes ≤ length (slot image k) = omega (arith, c.room.ensures, under, head, long) in
     let limit = leb-true (place + length bytes) file_limit both.1 in
     let small : place + length bytes < 2 ^ 32 = omega (arith, limit) in
-    record {
-      within = found.0;
-      callable = λ p is.
-          let at : 37 ≤ length p.now = rw is head in
-          let start : place ≤ length (content p.now) = rw is (leb-true place (length (content (slot image k))) both.0) in
-          let room : 37 + place + length bytes ≤ length p.now = rw is fits in
-          search (rules, at, start, room, small);
-    }
+    λ p is.
+    let at : 37 ≤ length p.now = rw is head in
+    let start : place ≤ length (content p.now) = rw is (leb-true place (length (content (slot image k))) both.0) in
+    let room : 37 + place + length bytes ≤ length p.now = rw is fits in
+    search (rules, at, start, room, small)
 
 pub returns : goal.returns
 returns c =

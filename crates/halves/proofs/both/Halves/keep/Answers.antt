@@ -1,17 +1,10 @@
 use Rattle.std.proofs.Common.{◌≡◌, ℕ, subst, arith}
 use Rattle.halves.specs.Halves.{KeptBelow}
-use Rattle.halves.proofs.Keeping.{kept_none, kept_more, kept_as, kept_small}
+use Rattle.halves.proofs.Keeping.{kept_as, kept_small}
 use Rattle.halves.proofs.both.Halves.keep.Goals as goal
 
 pub returns-then-self-lt-HEAD-clause-kept : goal.returns-then-self-lt-HEAD-clause-kept
 returns-then-self-lt-HEAD-clause-kept c = kept_small c.args.choice c.args.self.now.current.now c.args.self.now.synced.now c.if-self-lt-HEAD.true
-
-pub loop-k-init : goal.loop-k-init
-loop-k-init c = kept_none c.args.choice c.args.self.now.current.now c.args.self.now.synced.now
-
-pub loop-k-preserved : goal.loop-k-preserved
-loop-k-preserved c =
-    kept_more c.args.choice c.args.self.now.current.now c.args.self.now.synced.now c.loop-k.k c.loop-k.self.current.now c.loop-k.self.synced.now _ _ (omega arith) c.loop-k.invariant c.keep_slot.ensures
 
 pub returns-clause-kept : goal.returns-clause-kept
 returns-clause-kept c =

@@ -1,15 +1,14 @@
 use Rattle.std.proofs.Common.{sym, refl, ◌∙◌}
 use Rattle.std.proofs.lemmas.Result.{err_from_is_err_and}
 use Rattle.card.specs.Calls.{sync}
-use Rattle.image.proofs.Files.{answer_at, answer_absent}
-use Rattle.halves.proofs.Backed.{pair_synced}
+use Rattle.image.proofs.Files.{answer_at}
+use Rattle.halves.proofs.Backed.{passed_paired, pair_synced}
 use Rattle.halves.proofs.both.Halves.sync.Goals as goal
 
 pub returns-in_err-changed-clause-paired : goal.returns-in_err-changed-clause-paired
 returns-in_err-changed-clause-paired c =
-    let p = err_from_is_err_and c.from_residual.result c.from_residual.ensures.1 in
     let why = c.in_err-changed.ensures in
-    rw (p.1, p.2) (record { answer = answer_absent c.args.self.now.current.now c.args.name.now sync _ why.found.0 why.found.1 refl; left = (why.current, why.synced) })
+    passed_paired sync c.args.name.now c.args.self.now.current.now c.args.self.now.synced.now _ _ _ _ (err_from_is_err_and c.from_residual.result c.from_residual.ensures.1) why.found refl why.current why.synced
 
 pub returns-clause-paired : goal.returns-clause-paired
 returns-clause-paired c =
