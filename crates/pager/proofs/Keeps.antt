@@ -7,7 +7,7 @@ use mathlib.Core.Logic.{∥∥₁_elim}
 use native.Mathlib.Nat.{ℕ_set}
 use native.Mathlib.Decide.{ℕ_discrete}
 use Rattle.std.proofs.lemmas.List.{get_or-set_same, get_or-set_other}
-use Rattle.std.proofs.lemmas.Bool.{cases_Bool, cond-true, cond-false, eqb-true, eq-eqb, ne_eqb, lt-leb, leb-true, leb-false, ltb-true, and_parts, and_from, and_cases, and_left, and_right, not-false, both_ways}
+use Rattle.std.proofs.lemmas.Bool.{cases_Bool, cond-true, cond-false, eqb-true, eq-eqb, ne_eqb, lt-leb, leb-true, leb-false, ltb-true, and_parts, and_from, and_cases, and_left, and_right, not-false}
 use Rattle.card.specs.Meaning.{Bytes}
 use Rattle.pager.specs.declared.memory.Memory.{Memory}
 use Rattle.page_map.specs.declared.PageMap.{PageMap}
@@ -120,23 +120,6 @@ in_all m = ∥∥₁_elim m.sound (ℕ_set _ _) (λ s. s.all)
 
 pub none_above : (m : Memory) (d p : ℕ) → has_from (suc (length m.levels.items)) (fields m).saved d p ≡ false
 none_above m d p = ∥∥₁_elim m.sound (Bool-set _ _) (λ s. s.below d p)
-
--- a page that is not changed has room in the store
-pub room : (m : Memory) (d p long : ℕ) → m.count ≤ 4 → length m.changed.rows.items ≤ 32 → Allowed m d p long → is_some (look (fields m).changed d p) ≡ false → length m.changed.rows.items < 32
-room m d p long few most ok none = by (ℕ_discrete (length m.changed.rows.items) 32)
-  where
-    by : Dec (length m.changed.rows.items ≡ 32) → length m.changed.rows.items < 32
-    by (no ne) = omega arith
-    by (yes e) =
-        let out = linked m d p (omega (arith, ok.database)) ∙ none in
-        absurd (both_ways _ ok.changed (and_from _ _ (eq-eqb (total (map_of m.maps) 4) 32 (sym (in_all m) ∙ e)) (ap not out)))
-
-pub saved_room : (m : Memory) (d p long : ℕ) → Allowed m d p long → length m.saved.rows.items ≡ 32 → to_save m d p ≡ false
-saved_room m d p long ok e = by (and_cases _ _ ok.saved)
-  where
-    by : (eqb (length m.saved.rows.items) 32 ≡ false) ⊎ (to_save m d p ≡ false) → to_save m d p ≡ false
-    by (inl u) = absurd (both_ways _ u (eq-eqb (length m.saved.rows.items) 32 e))
-    by (inr u) = u
 
 -- a sound memory stays sound over a write
 pub sound_written :

@@ -11,10 +11,13 @@ use page_map::PAGE;
 pub const CHANGED_LIMIT: usize = 32;
 
 /// The changed pages of all databases, each once.
+// no model: `fields` of View gives the stores as lists already, and a model would save a word in a clause, no fact
 #[derive(Clone, Copy)]
 pub struct ChangedPages {
     rows: Few<ChangedPage, CHANGED_LIMIT>,
+    // the list's own bound: a clause sees its items alone, and what a commit has room for rests on this
     ghost few: { length rows.items ≤ 32 },
+    // what the type of a row says of its bytes, which rows of a list no longer show
     ghost whole: { Whole rows.items },
 }
 

@@ -20,9 +20,12 @@ fn passed(row: &SavedPage, s: usize) -> SavedPage
 }
 
 /// The saved pages of all savepoints, in the order in which they were saved.
+// no model, as for the changed pages
 #[derive(Clone, Copy)]
 pub struct SavedPages {
     rows: Few<SavedPage, SAVED_LIMIT>,
+    // the list's own bound, which a clause on its items does not show: without it the room for a row in
+    // `Memory::write` was not proved (tried)
     ghost few: { length rows.items ≤ 32 },
 }
 

@@ -13,6 +13,9 @@ use crate::saved_page::{SavedPage, Was};
 use page_map::{PAGE, is_page};
 
 impl Memory {
+    // Three tests want a database of the four, as the arrays do: a total look-up would need an answer for
+    // one that is not there, which the words of the contract do not give.
+
     /// Whether the page is one of the database's, or the next one.
     fn is_allowed(&self, database: usize, page: u32) -> bool
         requires { database < 4 }
