@@ -1,15 +1,13 @@
 -- A header, records and a name put one after the other are a lawful journal, put whole.
-use Rattle.std.proofs.Common.{◌≡◌, ℕ, ◌+◌, ◌*◌, ◌^◌, ◌<◌, ◌≤◌, true, ◌&&◌, eqb, leb, List, [], ◌∷◌, ◌++◌, length, get_or, drop, Some, None, Ok, Option, sym, ap, ◌∙◌, ap₂, append_assoc, append-nil, arith, length-append, Bool, false, Err, Result, refl, subst}
+use Rattle.std.proofs.Common.{◌≡◌, ℕ, ◌+◌, ◌*◌, ◌^◌, ◌<◌, ◌≤◌, true, ◌&&◌, eqb, leb, List, [], ◌∷◌, ◌++◌, length, get_or, drop, Some, None, Ok, Option, sym, ap, ◌∙◌, ap₂, append_assoc, append-nil, arith, length-append, Bool, false, refl}
 use Rattle.std.proofs.lemmas.Bool.{and_parts, leb-true, eqb-true}
 use Rattle.std.proofs.lemmas.Bool.Decides.{nat_tests}
 use Rattle.std.specs.Bool.{then_some}
-use Rattle.journal_writer.specs.declared.writer.Refusal.{Refusal}
-use Rattle.journal_writer.specs.declared.writer.Refusal.TheVariants.{Limit, Room}
 use Rattle.card.specs.Meaning.{Bytes, Name}
 use Rattle.card.specs.Calls.{overwrite}
 use Rattle.journal.specs.Format.{Journal, LawfulJournal, LawfulName, Octets, Starts, encode, header, records_bytes, super_bytes}
 use Rattle.journal.specs.Judged.{record_place}
-use Rattle.journal_writer.specs.Written.{Filled, NoRoom, made_lawful, pages_lawful, given_lawful, size_lawful, ascend, originals, journal_in}
+use Rattle.journal_writer.specs.Written.{Filled, made_lawful, pages_lawful, given_lawful, size_lawful, ascend, originals, journal_in}
 use Rattle.journal.proofs.Pieces.{overwrite_append}
 use Rattle.journal_writer.proofs.Ascent.{originals_ascend}
 use Rattle.journal_writer.proofs.Sealed.{length_originals, count_originals, originals_same, overwrite_past}
@@ -127,18 +125,7 @@ some_then : (b : Bool) (v n : ℕ) → then_some b v ≡ Some n → (b ≡ true)
 some_then true v n e = (refl, cc)
 some_then false v n e = let z : ◌≡◌ {A = ℕ} 0 1 = cc in absurd (omega arith)
 
-none_else : (b : Bool) (v : ℕ) → then_some b v ≡ None → b ≡ false
-none_else true v e = let z : ◌≡◌ {A = ℕ} 0 1 = cc in absurd (omega arith)
-none_else false v e = refl
-
 -- what the length of a journal says, which is told of lawful numbers alone
 module _ (size : ℕ) (pages : List ℕ) (name : Option Name) (end : Option ℕ) (is : end ≡ then_some (made_lawful size pages name) (record_place (length pages) + length (super_bytes name))) where
   pub made_long : (n : ℕ) → end ≡ Some n → Made size pages name × (n ≡ record_place (length pages) + length (super_bytes name))
   made_long n e = let h = some_then (made_lawful size pages name) _ n (sym is ∙ e) in (made_is size pages name h.0, sym h.1)
-
-  pub not_filled : (s t : Bytes) (nonce : ℕ) (e : Refusal) (r : Result ℕ Refusal) → NoRoom (length s) end e → t ≡ s → r ≡ Err e → Filled s nonce size pages name r t
-  not_filled s t nonce e r why same failed = subst (λ (r : Result ℕ Refusal). Filled s nonce size pages name r t) (sym failed) (by e why)
-    where
-      by : (e : Refusal) → NoRoom (length s) end e → Filled s nonce size pages name (Err e) t
-      by Limit none = (none_else (made_lawful size pages name) _ (sym is ∙ none), same)
-      by Room more = let h = some_then (made_lawful size pages name) _ more.0 (sym is ∙ more.1) in (h.0, omega (arith, h.1, more.2), same)

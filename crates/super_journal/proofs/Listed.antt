@@ -1,5 +1,5 @@
 -- Names in a list, tested and put one by one.
-use Rattle.std.proofs.Common.{◌≡◌, ℕ, Bool, true, false, MatchBool, Decides, zero, suc, ◌+◌, ◌*◌, ◌<◌, ◌≤◌, List, [], ◌∷◌, ◌++◌, length, get_or, take, drop, sym, refl, ap, ◌∙◌, subst, append_assoc, arith, length-append, length-take, Bor, Option, Some, Err, Result, MatchOption}
+use Rattle.std.proofs.Common.{◌≡◌, ℕ, Bool, true, false, MatchBool, Decides, zero, suc, ◌+◌, ◌*◌, ◌<◌, ◌≤◌, List, [], ◌∷◌, ◌++◌, length, get_or, take, drop, sym, refl, ap, ◌∙◌, subst, append_assoc, arith, length-append, length-take, Bor}
 use Rattle.std.specs.List.{AllByRecursion, AllWithin, HoldsAt, sum_by}
 use Rattle.std.proofs.lemmas.List.Sums.{sum_by-cons}
 use Rattle.std.proofs.lemmas.List.{take_more, take_at}
@@ -7,10 +7,7 @@ use Rattle.std.proofs.lemmas.Bool.{false≢true}
 use Rattle.card.specs.Meaning.{Bytes, Name}
 use Rattle.card.specs.Calls.{overwrite}
 use Rattle.super_journal.specs.Super.{super_journal_bytes, Plain, LawfulNames}
-use Rattle.super_journal.specs.Written.{Named, texts}
-use Rattle.journal_writer.specs.Written.{NoRoom}
-use Rattle.journal_writer.specs.declared.writer.Refusal.{Refusal}
-use Rattle.journal_writer.specs.declared.writer.Refusal.TheVariants.{Limit, Room}
+use Rattle.super_journal.specs.Written.{texts}
 use Rattle.journal.proofs.Pieces.{overwrite_append}
 use Rattle.super_journal.proofs.Names.{super_push}
 
@@ -108,15 +105,3 @@ overwrite_front s x p q e h = ap (take q) (sym (append_assoc (take p s) x rest))
 pub ended_put : (s t u : Bytes) (p : ℕ) (n : Name) → p + length n + 1 ≤ length s → t ≡ overwrite s p n → u ≡ overwrite t (p + length n) (0 ∷ []) → u ≡ overwrite s p (n ++ (0 ∷ []))
 ended_put s t u p n room first second =
     second ∙ ap (λ (x : Bytes). overwrite x (p + length n) (0 ∷ [])) first ∙ overwrite_append s p n (0 ∷ []) (p + length n) refl (omega arith)
-
--- what the length of a super-journal says, which is told of lawful names alone
-module _ (ns : List Name) (end : Option ℕ) (is : MatchOption end (LawfulNames ns → ⊥) (λ n. LawfulNames ns × (n ≡ length (super_journal_bytes ns)))) where
-  pub named_long : (n : ℕ) → end ≡ Some n → LawfulNames ns × (n ≡ length (super_journal_bytes ns))
-  named_long n e = rw e at is
-
-  pub not_named : (s : Bytes) (e : Refusal) (r : Result ℕ Refusal) → NoRoom (length s) end e → r ≡ Err e → Named s ns r s
-  not_named s e r why failed = subst (λ (r : Result ℕ Refusal). Named s ns r s) (sym failed) (by e why)
-    where
-      by : (e : Refusal) → NoRoom (length s) end e → Named s ns (Err e) s
-      by Limit none = (rw none at is, refl)
-      by Room more = let h = rw more.1 at is in (h.0, omega (arith, h.1, more.2), refl)

@@ -1,31 +1,19 @@
-use Rattle.std.proofs.Common.{◌≡◌, ℕ, length, Some, None, Err, Option, sym, refl, ap, ◌∙◌, subst, arith, Ok}
-use Rattle.std.proofs.lemmas.Result.{err_from_is_err_and}
+use Rattle.std.proofs.Common.{◌≡◌, ℕ, length, Some, None, Option, sym, ap, ◌∙◌, subst, arith, Ok}
 use Rattle.card.specs.Meaning.{Name}
 use Rattle.card.specs.Calls.{overwrite}
 use Rattle.journal.specs.Format.{super_bytes}
-use Rattle.journal_writer.specs.declared.writer.Refusal.{Refusal}
-use Rattle.journal_writer.specs.Written.{Filled, told, given_lawful}
+use Rattle.journal_writer.specs.Written.{Filled, told}
 use Rattle.journal.proofs.Encoded.{length_super}
-use Rattle.journal_writer.proofs.Whole.{Made, made_long, not_filled, name_is, filled_alone, filled_named}
+use Rattle.journal_writer.proofs.Whole.{Made, made_long, filled_alone, filled_named}
 use Rattle.journal_writer.proofs.filler.fill_journal.Goals as goal
 
-pub returns-in_err-length : goal.returns-in_err-length
-returns-in_err-length c =
-    let p = err_from_is_err_and c.from_residual.result c.from_residual.ensures.1 in
-    not_filled c.args.size c.args.pages.now (told c.args.name) c.journal_length.result c.journal_length.ensures c.args.buffer.now c.args.buffer.now c.args.nonce _ c.from_residual.result c.in_err-length.ensures refl (p.1 ∙ ap (λ (e : Refusal). Err e) p.2)
-
-pub seal_records-requires : goal.seal_records-requires
-seal_records-requires c =
-    let is = made_long c.args.size c.args.pages.now (told c.args.name) c.journal_length.result c.journal_length.ensures c.in_ok-length.length c.in_ok-length.ensures.0 in
-    record { few = is.0.few; room = omega (arith, is.1, c.in_ok-length.ensures.1) }
-
-pub fill_name-requires : goal.fill_name-requires
-fill_name-requires c =
+pub fill_name-requires-clause-room : goal.fill_name-requires-clause-room
+fill_name-requires-clause-room c =
     let is = made_long c.args.size c.args.pages.now (told c.args.name) c.journal_length.result c.journal_length.ensures c.in_ok-length.length c.in_ok-length.ensures.0 in
     let n = c.in-Some.name.now in
     let named : told c.args.name ≡ Some n = ap told c.in-Some.is in
     let long = ap (λ (o : Option Name). length (super_bytes o)) named in
-    record { room = omega (arith, is.1, long, length_super n, c.in_ok-length.ensures.1, c.record_place.ensures); short = (name_is n (ap given_lawful (sym named) ∙ is.0.named)).1 }
+    omega (arith, is.1, long, length_super n, c.in_ok-length.ensures.1, c.record_place.ensures)
 
 pub returns-in-Some : goal.returns-in-Some
 returns-in-Some c =
