@@ -3,7 +3,7 @@
 use Rattle.std.proofs.Common.{◌≡◌, ℕ, zero, suc, ◌+◌, ◌-◌, ◌<◌, ◌≤◌, Bool, true, false, cond, ◌⊎◌, List, [], ◌∷◌, length, get_or, sym, refl, ap, ◌∙◌, subst, ap₂, inl, inr, arith}
 use native.Mathlib.Decide.{ℕ_discrete}
 use Rattle.std.proofs.lemmas.Bool.{cond-true, cond-false, cases_Bool}
-use Rattle.page_map.specs.Sets.{PageSet, counted, one_if, NoneAbove, NextAbove, Ascending}
+use Rattle.page_map.specs.Sets.{PageSet, counted, one_if, NoneAbove, NextAbove}
 use Rattle.page_map.specs.Listed.{above}
 
 -- where none of the pages is in, none is listed
@@ -15,9 +15,6 @@ above_free s after (suc k) free =
 
 pub above_none : (s : PageSet) (after k : ℕ) → NoneAbove s after → above s after k ≡ []
 above_none s after k none = above_free s after k (λ q low high. none q low)
-
-pub above_past : (s : PageSet) (after p k : ℕ) → NextAbove s after p → after + k < p → above s after k ≡ []
-above_past s after p k next past = above_free s after k (λ q low high. next.least q low (omega arith))
 
 -- the next page stands first, and the pages above it follow
 pub above_next : (s : PageSet) (after p k : ℕ) → NextAbove s after p → p ≤ after + k → above s after k ≡ p ∷ above s p (after + k - p)
@@ -52,20 +49,6 @@ above_counted s after (suc k) = by (s (suc after)) (above_counted s (suc after) 
 pub above_length : (s : PageSet) (after k : ℕ) → length (above s after k) ≤ counted s (after + k)
 above_length s after k = omega (arith, above_counted s after k)
 
--- a list that ascends from a page ascends from each lower one
-lower : (low high : ℕ) (pages : List ℕ) → low ≤ high → Ascending high pages → Ascending low pages
-lower low high [] le up = tt
-lower low high (p ∷ pages) le up = (omega (arith, up.0), up.1)
-
-pub above_ascends : (s : PageSet) (after k : ℕ) → Ascending after (above s after k)
-unfolding above
-above_ascends s after zero = tt
-above_ascends s after (suc k) = by (s (suc after)) (above_ascends s (suc after) k)
-  where
-    by : (b : Bool) → Ascending (suc after) (above s (suc after) k) → Ascending after (cond b (suc after ∷ above s (suc after) k) (above s (suc after) k))
-    by true up = (omega arith, up)
-    by false up = lower after (suc after) (above s (suc after) k) (omega arith) up
-
 -- each page of the list is in the set, above `after`, and at most `after + k`
 pub record Within (s : PageSet) (after k p : ℕ) : Type 0 where
   pub low : after < p
@@ -97,6 +80,3 @@ above_within s after (suc k) i lt = by (cases_Bool (s (suc after))) (above_withi
     by (inr out) later =
         let same = cond-false (s (suc after)) (suc after ∷ rest) rest out in
         subst (λ (pages : List ℕ). Within s after (suc k) (get_or pages i 0)) (sym same) (wider _ (later i (subst (λ (pages : List ℕ). i < length pages) same lt)))
-
-pub above_high : (s : PageSet) (after k i : ℕ) → i < length (above s after k) → get_or (above s after k) i 0 ≤ after + k
-above_high s after k i lt = (above_within s after k i lt).high

@@ -23,6 +23,7 @@ pub const PAGE_LIMIT: u32 = 4096;
 const WORDS: usize = 64;
 
 /// The bits of a word.
+// pages and bits are u32, and places are usize: `as` goes between them here, since no From does
 const BITS: u32 = 64;
 
 /// Whether a database can have the page.

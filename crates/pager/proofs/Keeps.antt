@@ -7,7 +7,7 @@ use mathlib.Core.Logic.{∥∥₁_elim}
 use native.Mathlib.Nat.{ℕ_set}
 use native.Mathlib.Decide.{ℕ_discrete}
 use Rattle.std.proofs.lemmas.List.{get_or-set_same, get_or-set_other}
-use Rattle.std.proofs.lemmas.Bool.{cases_Bool, cond-true, cond-false, eqb-true, eq-eqb, ne_eqb, lt-leb, leb-true, leb-false, ltb-true, and_parts, and_from, and_cases, and_left, and_right, not-false, both_ways}
+use Rattle.std.proofs.lemmas.Bool.{cases_Bool, cond-true, cond-false, eqb-true, eq-eqb, ne_eqb, lt-leb, leb-true, leb-false, ltb-true, and_parts, and_from, and_cases, and_left, and_right, not-false}
 use Rattle.card.specs.Meaning.{Bytes}
 use Rattle.pager.specs.declared.memory.Memory.{Memory}
 use Rattle.page_map.specs.declared.PageMap.{PageMap}
@@ -15,12 +15,13 @@ use Rattle.pager.specs.declared.changed_page.ChangedPage.{ChangedPage}
 use Rattle.pager.specs.declared.changed_pages.ChangedPages.{ChangedPages}
 use Rattle.pager.specs.declared.saved_page.SavedPage.{SavedPage}
 use Rattle.pager.specs.declared.saved_pages.SavedPages.{SavedPages}
+use Rattle.pager.specs.declared.saved_page.Was.{Was}
 use Rattle.pager.specs.declared.refusal.Refusal.{Refusal}
 use Rattle.pager.specs.declared.refusal.Refusal.TheVariants.{NoDatabase, BufferLength, Page, ChangedFull, SavedFull}
 use Rattle.page_map.specs.Sets.{PageSet, including, is_page, total}
 use Rattle.page_map.specs.Words.{pages_of}
 use Rattle.pager.specs.Changed.{look, Whole, is_row}
-use Rattle.pager.specs.Saved.{has, has_from}
+use Rattle.pager.specs.Saved.{has, has_from, added}
 use Rattle.pager.specs.Sound.{Sound, map_of}
 use Rattle.pager.specs.View.{Fields, fields, page_allowed, to_save, write_refusal, was_of, saved_first}
 use Rattle.pager.proofs.Saves.{from_end}
@@ -120,23 +121,6 @@ in_all m = ∥∥₁_elim m.sound (ℕ_set _ _) (λ s. s.all)
 pub none_above : (m : Memory) (d p : ℕ) → has_from (suc (length m.levels.items)) (fields m).saved d p ≡ false
 none_above m d p = ∥∥₁_elim m.sound (Bool-set _ _) (λ s. s.below d p)
 
--- a page that is not changed has room in the store
-pub room : (m : Memory) (d p long : ℕ) → m.count ≤ 4 → length m.changed.rows.items ≤ 32 → Allowed m d p long → is_some (look (fields m).changed d p) ≡ false → length m.changed.rows.items < 32
-room m d p long few most ok none = by (ℕ_discrete (length m.changed.rows.items) 32)
-  where
-    by : Dec (length m.changed.rows.items ≡ 32) → length m.changed.rows.items < 32
-    by (no ne) = omega arith
-    by (yes e) =
-        let out = linked m d p (omega (arith, ok.database)) ∙ none in
-        absurd (both_ways _ ok.changed (and_from _ _ (eq-eqb (total (map_of m.maps) 4) 32 (sym (in_all m) ∙ e)) (ap not out)))
-
-pub saved_room : (m : Memory) (d p long : ℕ) → Allowed m d p long → length m.saved.rows.items ≡ 32 → to_save m d p ≡ false
-saved_room m d p long ok e = by (and_cases _ _ ok.saved)
-  where
-    by : (eqb (length m.saved.rows.items) 32 ≡ false) ⊎ (to_save m d p ≡ false) → to_save m d p ≡ false
-    by (inl u) = absurd (both_ways _ u (eq-eqb (length m.saved.rows.items) 32 e))
-    by (inr u) = u
-
 -- a sound memory stays sound over a write
 pub sound_written :
     (f g : Fields) (levels d p : ℕ) (bytes : Bytes) → Wrote f g levels d p bytes → d < 4 → is_page p ≡ true → length g.changed ≡ cond (is_some (look f.changed d p)) (length f.changed) (length f.changed + 1) →
@@ -172,3 +156,19 @@ sound_written f g levels d p bytes wrote inside is grown sound = record { link =
         ap (λ (l : List SavedPage). has_from (suc levels) l e q) more ∙ from_end (suc levels) f.saved _ e q
         ∙ ap₂ (λ (a b : Bool). a || b) (sound.below e q) (and_left _ _ (lt-leb (suc levels) levels (omega arith)))
     below e q (inr same) = ap (λ (l : List SavedPage). has_from (suc levels) l e q) same.0 ∙ sound.below e q
+
+-- a row that is added once is what the top savepoint has to save
+pub saved_added :
+    (m : Memory) (d p level : ℕ) (was : Was) → level ≡ length m.levels.items → was ≡ was_of (look (fields m).changed d p) (leb p (get_or m.sizes d 0)) →
+    added (fields m).saved (record { level = level; database = d; page = p; was = was }) ≡ saved_first m d p
+saved_added m d p level was top is =
+    ap₂ (λ (k : ℕ) (w : Was). added (fields m).saved (record { level = k; database = d; page = p; was = w })) top is
+    ∙ by (leb 1 (length m.levels.items)) (has (length m.levels.items) (fields m).saved d p)
+  where
+    new : SavedPage
+    new = record { level = length m.levels.items; database = d; page = p; was = was_of (look (fields m).changed d p) (leb p (get_or m.sizes d 0)) }
+
+    by : (a b : Bool) → cond a (cond b (fields m).saved ((fields m).saved ++ new ∷ [])) (fields m).saved ≡ cond (a && not b) ((fields m).saved ++ new ∷ []) (fields m).saved
+    by true true = refl
+    by true false = refl
+    by false b = refl

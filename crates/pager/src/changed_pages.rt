@@ -11,10 +11,13 @@ use page_map::PAGE;
 pub const CHANGED_LIMIT: usize = 32;
 
 /// The changed pages of all databases, each once.
+// no model: `fields` of View gives the stores as lists already, and a model would save a word in a clause, no fact
 #[derive(Clone, Copy)]
 pub struct ChangedPages {
     rows: Few<ChangedPage, CHANGED_LIMIT>,
+    // the list's own bound: a clause sees its items alone, and what a commit has room for rests on this
     ghost few: { length rows.items ≤ 32 },
+    // what the type of a row says of its bytes, which rows of a list no longer show
     ghost whole: { Whole rows.items },
 }
 
@@ -46,8 +49,11 @@ impl ChangedPages {
     pub fn get(&self, database: usize, page: u32) -> Option<&[u8; PAGE]>
         ensures { option_map (λ x. x.now) result ≡ look self.now.rows.items database page }
     {
-        let i = self.find(database, page)?;
-        Some(&self.rows.as_slice()[i].bytes)
+        self.rows
+            .as_slice()
+            .iter()
+            .find(|row| row.database == database && row.page == page)
+            .map(|row| &row.bytes)
     }
 
     /// Whether the store is full.

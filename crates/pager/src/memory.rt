@@ -19,12 +19,16 @@ pub const SAVEPOINTS: usize = 8;
 #[derive(Clone, Copy)]
 pub struct Memory {
     count: usize,
+    // no list of databases: all four sizes are given and told, those past the count too, and a savepoint
+    // keeps the sizes alone
     sizes: [u32; DATABASES],
     maps: [PageMap; DATABASES],
     changed: ChangedPages,
     saved: SavedPages,
     levels: Few<[u32; DATABASES], SAVEPOINTS>,
+    // what makes a database below the count one of the four
     ghost few: { count ≤ 4 },
+    // the list's own bound, which a clause on its items does not show: the room for a savepoint rests on it
     ghost low: { length levels.items ≤ 8 },
     ghost sound: { ∥ Sound maps changed.rows.items saved.rows.items (length levels.items) ∥₁ },
 }

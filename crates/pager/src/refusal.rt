@@ -27,6 +27,7 @@ impl Refusal {
     pub fn number(self) -> u8
         ensures { result ≡ refusal_number self }
     {
+        // `as`, since an enum's number has no From
         self as u8
     }
 }

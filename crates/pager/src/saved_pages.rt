@@ -1,5 +1,5 @@
 // The store of saved pages: 32 in all, for all savepoints together.
-ghost use Rattle.std.specs.Prelude.{◌≡◌, ◌+◌, ◌<◌, ◌≤◌, [], ◌∷◌, ◌++◌, length, ◌==◌};
+ghost use Rattle.std.specs.Prelude.{◌≡◌, ◌+◌, ◌≤◌, not, ◌&&◌, [], length, ◌==◌, nat_le};
 ghost use Rattle.pager.specs.Saved.{has, passed as passed_down, added, gathered};
 
 use crate::saved_page::{SavedPage, Was};
@@ -20,9 +20,12 @@ fn passed(row: &SavedPage, s: usize) -> SavedPage
 }
 
 /// The saved pages of all savepoints, in the order in which they were saved.
+// no model, as for the changed pages
 #[derive(Clone, Copy)]
 pub struct SavedPages {
     rows: Few<SavedPage, SAVED_LIMIT>,
+    // the list's own bound, which a clause on its items does not show: without it the room for a row in
+    // `Memory::write` was not proved (tried)
     ghost few: { length rows.items ≤ 32 },
 }
 
@@ -43,7 +46,7 @@ impl SavedPages {
 
     /// Whether the savepoint has saved the page.
     #[tactic(auto, unfolding(crate::specs::Saved::has))]
-    pub fn has(&self, level: usize, database: usize, page: u32) -> bool
+    fn has(&self, level: usize, database: usize, page: u32) -> bool
         ensures { result ≡ has level self.now.rows.items database page }
     {
         self.rows.as_slice().iter().any(|row| row.level == level
@@ -65,27 +68,27 @@ impl SavedPages {
         self.rows.is_full()
     }
 
-    /// Adds a page.
-    pub fn push(&mut self, row: SavedPage)
-        requires { length self.old.rows.items < 32 }
-        ensures { self.new.rows.items ≡ self.old.rows.items ++ row ∷ [] }
+    /// Whether the savepoint has yet to save the page; savepoint 0 is none, and saves nothing.
+    pub fn lacks(&self, level: usize, database: usize, page: u32) -> bool
+        ensures { result ≡ (nat_le 1 level && not (has level self.now.rows.items database page)) }
     {
-        self.rows.push(row);
+        level > 0 && !self.has(level, database, page)
     }
 
     /// Adds a page, unless its savepoint has it already; with no savepoint it is dropped.
-    fn add_once(&mut self, row: SavedPage)
-        requires { length self.old.rows.items < 32 }
+    pub fn add_once(&mut self, row: SavedPage)
+        requires { length (added self.old.rows.items row) ≤ 32 }
         ensures rows { self.new.rows.items ≡ added self.old.rows.items row }
         ensures used { length self.new.rows.items ≤ length self.old.rows.items + 1 }
     {
-        if row.level > 0 && !self.has(row.level, row.database, row.page) {
-            self.push(row);
+        if self.lacks(row.level, row.database, row.page) {
+            self.rows.push(row);
         }
     }
 
     /// The store once savepoint s and all above are removed: their pages pass to the one below,
     /// each once, or are dropped.
+    // made anew, not in place: rows change and go, and a fixed list gives none of its own away
     pub fn passed_down(&self, s: usize) -> SavedPages
         requires { 1 ≤ s }
         ensures { result.rows.items ≡ gathered s [] self.now.rows.items }

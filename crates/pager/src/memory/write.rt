@@ -1,5 +1,5 @@
 // Writing a page.
-ghost use Rattle.std.specs.Prelude.{◌≡◌, ℕ, ◌+◌, ◌<◌, ◌≤◌, Bool, true, false, cond, not, ◌&&◌, List, length as count_of, is_some, Some, None, Ok, Err, ◌==◌, ◌≢◌, nat_le, slice_index};
+ghost use Rattle.std.specs.Prelude.{◌≡◌, ℕ, ◌+◌, ◌<◌, ◌≤◌, Bool, true, false, cond, not, ◌&&◌, List, length as count_of, is_some, IfOk, Some, None, Ok, Err, ◌==◌, ◌≢◌, nat_le, slice_index};
 ghost use Rattle.std.specs.Option.{option_map};
 ghost use Rattle.pager.specs.Changed.{look};
 ghost use Rattle.pager.specs.Machine.{written};
@@ -10,23 +10,18 @@ ghost use Rattle.pager.specs.View.{view, fields, page_allowed, to_save, write_re
 use crate::memory::Memory;
 use crate::refusal::Refusal;
 use crate::saved_page::{SavedPage, Was};
-use crate::saved_pages::SavedPages;
 use page_map::{PAGE, is_page};
 
 impl Memory {
+    // Three tests want a database of the four, as the arrays do: a total look-up would need an answer for
+    // one that is not there, which the words of the contract do not give.
+
     /// Whether the page is one of the database's, or the next one.
     fn is_allowed(&self, database: usize, page: u32) -> bool
         requires { database < 4 }
         ensures { result ≡ page_allowed self.now database page }
     {
         is_page(page) && page - 1 <= self.sizes[database]
-    }
-
-    /// Whether the top savepoint has to save the page before it is written.
-    fn is_to_save(&self, database: usize, page: u32) -> bool
-        ensures { result ≡ to_save self.now database page }
-    {
-        self.levels.len() >= 1 && !self.saved.has(self.levels.len(), database, page)
     }
 
     /// Whether 32 pages are changed, and this one is not among them.
@@ -41,7 +36,7 @@ impl Memory {
     fn lacks_saved_room(&self, database: usize, page: u32) -> bool
         ensures { result ≡ (count_of self.now.saved.rows.items == 32 && to_save self.now database page) }
     {
-        self.saved.is_full() && self.is_to_save(database, page)
+        self.saved.is_full() && self.saved.lacks(self.levels.len(), database, page)
     }
 
     /// What the page is now.
@@ -56,32 +51,15 @@ impl Memory {
         }
     }
 
-    /// The saved pages once the page is about to be written.
-    fn saved_first(&self, database: usize, page: u32, was: Was) -> SavedPages
-        requires was { was ≡ was_of (look (fields self.now).changed database page) (nat_le page (slice_index self.now.sizes database)) }
-        requires room { count_of self.now.saved.rows.items ≡ 32 → to_save self.now database page ≡ false }
-        ensures { result.rows.items ≡ saved_first self.now database page }
-    {
-        let mut saved = self.saved;
-        if self.is_to_save(database, page) {
-            saved.push(SavedPage {
-                level: self.levels.len(),
-                database,
-                page,
-                was,
-            });
-        }
-        saved
-    }
-
-    /// That the write is not refused.
-    fn admit(&self, database: usize, page: u32, length: usize) -> Result<(), Refusal>
-        ensures { refused result ≡ write_refusal self.now database page length }
+    /// The bytes of the page, if the write is not refused.
+    fn admit(&self, database: usize, page: u32, bytes: &[u8]) -> Result<[u8; PAGE], Refusal>
+        ensures refusal { refused result ≡ write_refusal self.now database page (count_of bytes.now) }
+        ensures whole { IfOk result (λ row. row ≡ bytes.now) }
     {
         self.known(database)?;
-        if length != PAGE {
+        let Ok(row) = <[u8; PAGE]>::try_from(bytes) else {
             return Err(Refusal::BufferLength);
-        }
+        };
         if !self.is_allowed(database, page) {
             return Err(Refusal::Page);
         }
@@ -91,7 +69,7 @@ impl Memory {
         if self.lacks_saved_room(database, page) {
             return Err(Refusal::SavedFull);
         }
-        Ok(())
+        Ok(row)
     }
 
     /// Writes a page of a database: replaces it, or adds the one after its last. The top savepoint
@@ -104,12 +82,14 @@ impl Memory {
         ensures used { refused result ≡ None → count_of self.new.changed.rows.items ≡ cond (map_of self.old.maps database page) (count_of self.old.changed.rows.items) (count_of self.old.changed.rows.items + 1) }
         ensures saved { refused result ≡ None → (fields self.new).saved ≡ saved_first self.old database page }
     {
-        self.admit(database, page, bytes.len())?;
-        let mut row = [0u8; PAGE];
-        row.copy_from_slice(bytes);
+        let row = self.admit(database, page, bytes)?;
         let was = self.was(database, page);
-        let saved = self.saved_first(database, page, was);
-        self.saved = saved;
+        self.saved.add_once(SavedPage {
+            level: self.levels.len(),
+            database,
+            page,
+            was,
+        });
         self.changed.put(database, page, row);
         self.maps[database].insert(page);
         self.sizes[database] = self.sizes[database].max(page);
