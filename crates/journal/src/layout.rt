@@ -38,7 +38,7 @@ pub fn checksum(nonce: u32, page: &[u8]) -> u32
     requires { count page.now ≡ 512 }
     ensures { result ≡ checksum_of nonce page.now }
 {
-    nonce.wrapping_add(page[312] as u32 + page[112] as u32)
+    nonce.wrapping_add(u32::from(page[312]) + u32::from(page[112]))
 }
 
 /// Where the record of an index lies, from 0, or where so many records end.

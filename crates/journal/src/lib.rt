@@ -3,6 +3,8 @@
 // This crate judges bytes, also those of a file on a card, and reads sound journals in place. The crate
 // `journal_writer` makes such bytes, and `super_journal` has the file that names a commit's journals.
 // What is done about a set of databases is decided above them. docs/FORMAT.md has the bytes as tables.
+//
+// `as` stands where a u32 and a usize meet, since there is no `From` between them.
 #![tactic(auto)]
 
 mod fault;

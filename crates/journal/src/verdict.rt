@@ -5,7 +5,7 @@ ghost use Rattle.journal.specs.Laws.{JournalLaws};
 use crate::header::{is_spent, length_holds, read_header};
 use crate::layout::{SUPER_EXTRA, record_place};
 use crate::named::super_holds;
-use crate::records::first_wrong;
+use crate::records::Records;
 
 /// Where bytes lie in others.
 #[derive(Clone, Copy, PartialEq, Eq, Debug)]
@@ -14,6 +14,8 @@ pub struct Span {
     pub length: usize,
 }
 
+// Apart from the bytes: the parts are copied out of the call that reads the bytes into its caller's buffer, and a type
+// of both would serve one loop, in `settling`, alone.
 /// The parts of a sound journal; its page records are read in place. The numbers stand here and not as a header
 /// in a field: callers name each, and `sound.header.count` would be no plainer.
 #[derive(Clone, Copy, PartialEq, Eq, Debug)]
@@ -51,7 +53,7 @@ pub fn judge(bytes: &[u8]) -> Verdict
     if !length_holds(bytes.len(), header.count) {
         return Verdict::Damaged { record: 0 };
     }
-    if let Some(index) = first_wrong(bytes, header) {
+    if let Some(index) = (Records { bytes, header }).first_wrong() {
         return Verdict::Damaged { record: index + 1 };
     }
     let end = record_place(header.count);

@@ -1,6 +1,6 @@
 -- Records made around pages that lie in a buffer, and the whole journal that they become.
 use Rattle.std.proofs.Common.{◌≡◌, ℕ, suc, ◌+◌, ◌-◌, ◌*◌, ◌<◌, ◌≤◌, List, [], ◌∷◌, ◌++◌, length, get_or, take, drop, sym, refl, ap, ◌∙◌, ap₂, append_assoc, append-nil, arith, length-append, length-take}
-use Rattle.std.proofs.lemmas.List.{take-append-drop, drop-drop, drop_at, take_more, take_all}
+use Rattle.std.proofs.lemmas.List.{take-append-drop, drop-drop, drop_at, take_at, take_more, take_all, take-append-le, take-take}
 use Rattle.card.specs.Meaning.{Bytes}
 use Rattle.card.specs.Calls.{overwrite, part}
 use Rattle.card.specs.Numbers.{number_bytes}
@@ -57,6 +57,33 @@ record_sealed s k n page h =
 
     same : part t₁ (p + 4) 512 ≡ bytes
     same = ap (take 512) (overwrite_past s p (number_bytes page) (p + 4) (omega arith) (omega arith))
+
+-- bytes that are put over the whole of others leave nothing of them
+overwrite_over : (s : Bytes) (q : ℕ) (x : Bytes) (p : ℕ) (y : Bytes) → p ≤ q → q + length x ≤ p + length y → q ≤ length s → overwrite (overwrite s q x) p y ≡ overwrite s p y
+overwrite_over s q x p y before past inside = ap₂ (λ (u v : Bytes). u ++ (y ++ v)) front (overwrite_past s q x (p + length y) inside past)
+  where
+    front : take p (overwrite s q x) ≡ take p s
+    front = take-append-le p (take q s) (x ++ drop (q + length x) s) (omega (arith, length-take q s)) ∙ take-take p q s before
+
+-- a page put at its place, and made a record
+pub record_put :
+    (s t u : Bytes) (k n page : ℕ) (bytes : Bytes) (at : ℕ) → at ≡ record_place k + 4 → length bytes ≡ 512 → record_place k + 520 ≤ length s → t ≡ overwrite s at bytes →
+    u ≡ overwrite t (record_place k) (record_bytes n (record { page = page; bytes = page_bytes t k })) → u ≡ overwrite s (record_place k) (record_bytes n (record { page = page; bytes = bytes }))
+record_put s t u k n page bytes at is whole room put sealed =
+    sealed ∙ ap₂ (λ (a b : Bytes). overwrite a (record_place k) (record_bytes n (record { page = page; bytes = b }))) lies same
+    ∙ overwrite_over s (record_place k + 4) bytes (record_place k) (record_bytes n (record { page = page; bytes = bytes })) (omega arith) (omega (arith, whole, length_record n (record { page = page; bytes = bytes }) whole)) (omega arith)
+  where
+    lies : t ≡ overwrite s (record_place k + 4) bytes
+    lies = put ∙ ap (λ (p : ℕ). overwrite s p bytes) is
+
+    front : length (take (record_place k + 4) s) ≡ record_place k + 4
+    front = length-take (record_place k + 4) s ∙ omega arith
+
+    same : page_bytes t k ≡ bytes
+    same =
+        ap (λ (b : Bytes). page_bytes b k) lies
+        ∙ ap (take 512) (drop_at (take (record_place k + 4) s) (bytes ++ drop (record_place k + 4 + length bytes) s) (record_place k + 4) front)
+        ∙ take_at bytes (drop (record_place k + 4 + length bytes) s) 512 whole
 
 -- one more page
 originals_push : (b : Bytes) (k : ℕ) (ps : List ℕ) (p : ℕ) → originals b k (ps ++ (p ∷ [])) ≡ originals b k ps ++ (record { page = p; bytes = page_bytes b (k + length ps) } ∷ [])

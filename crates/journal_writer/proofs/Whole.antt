@@ -1,7 +1,8 @@
 -- A header, records and a name put one after the other are a lawful journal, put whole.
-use Rattle.std.proofs.Common.{◌≡◌, ℕ, ◌+◌, ◌*◌, ◌^◌, ◌<◌, ◌≤◌, true, ◌&&◌, eqb, leb, List, [], ◌∷◌, ◌++◌, length, get_or, drop, Some, None, Ok, Option, sym, ap, ◌∙◌, ap₂, append_assoc, append-nil, arith, length-append}
+use Rattle.std.proofs.Common.{◌≡◌, ℕ, ◌+◌, ◌*◌, ◌^◌, ◌<◌, ◌≤◌, true, ◌&&◌, eqb, leb, List, [], ◌∷◌, ◌++◌, length, get_or, drop, Some, None, Ok, Option, sym, ap, ◌∙◌, ap₂, append_assoc, append-nil, arith, length-append, Bool, false, refl}
 use Rattle.std.proofs.lemmas.Bool.{and_parts, leb-true, eqb-true}
 use Rattle.std.proofs.lemmas.Bool.Decides.{nat_tests}
+use Rattle.std.specs.Bool.{then_some}
 use Rattle.card.specs.Meaning.{Bytes, Name}
 use Rattle.card.specs.Calls.{overwrite}
 use Rattle.journal.specs.Format.{Journal, LawfulJournal, LawfulName, Octets, Starts, encode, header, records_bytes, super_bytes}
@@ -10,7 +11,7 @@ use Rattle.journal_writer.specs.Written.{Filled, made_lawful, pages_lawful, give
 use Rattle.journal.proofs.Pieces.{overwrite_append}
 use Rattle.journal_writer.proofs.Ascent.{originals_ascend}
 use Rattle.journal_writer.proofs.Sealed.{length_originals, count_originals, originals_same, overwrite_past}
-use Rattle.journal.proofs.Encoded.{length_header, length_encode}
+use Rattle.journal.proofs.Encoded.{length_header, length_encode, length_super}
 
 -- what the tests of a journal's numbers say
 pub record Made (size : ℕ) (pages : List ℕ) (name : Option Name) : Type 0 where
@@ -47,6 +48,12 @@ starts b k (p ∷ ps) some first = first
 
 pub name_is : (n : Name) → given_lawful (Some n) ≡ true → (1 ≤ length n) × (length n ≤ 32)
 name_is n ok = (grind (arith, nat_tests, ok), grind (arith, nat_tests, ok))
+
+-- how long the record of a lawful name is
+pub super_short : (o : Option Name) → given_lawful o ≡ true → length (super_bytes o) ≤ 52
+unfolding super_bytes
+super_short None ok = omega arith
+super_short (Some n) ok = omega (arith, length_super n, name_is n ok)
 
 module _ (s : Bytes) (nonce size : ℕ) (pages : List ℕ) (name : Option Name) (is : Made size pages name) (small : nonce < 2 ^ 32) (room : record_place (length pages) + length (super_bytes name) ≤ length s) where
   abbrev j : Journal
@@ -113,3 +120,12 @@ filled_named s nonce size pages name is small fit n total room s₁ s₂ s₃ e�
 
     long : 0 + length (header 0 nonce size ++ body) ≡ record_place (length pages)
     long = simp length-append (omega (arith, length_header 0 nonce size, length_originals nonce s 0 pages (omega arith)))
+
+some_then : (b : Bool) (v n : ℕ) → then_some b v ≡ Some n → (b ≡ true) × (v ≡ n)
+some_then true v n e = (refl, cc)
+some_then false v n e = let z : ◌≡◌ {A = ℕ} 0 1 = cc in absurd (omega arith)
+
+-- what the length of a journal says, which is told of lawful numbers alone
+module _ (size : ℕ) (pages : List ℕ) (name : Option Name) (end : Option ℕ) (is : end ≡ then_some (made_lawful size pages name) (record_place (length pages) + length (super_bytes name))) where
+  pub made_long : (n : ℕ) → end ≡ Some n → Made size pages name × (n ≡ record_place (length pages) + length (super_bytes name))
+  made_long n e = let h = some_then (made_lawful size pages name) _ n (sym is ∙ e) in (made_is size pages name h.0, sym h.1)

@@ -15,6 +15,16 @@ PutTo old end lawful Done (Ok u) new = (lawful ≡ true) × (end ≤ length old)
 PutTo old end lawful Done (Err Limit) new = (lawful ≡ false) × (new ≡ old)
 PutTo old end lawful Done (Err Room) new = (lawful ≡ true) × (length old < end) × (new ≡ old)
 
+-- why what ends at a place, or is out of the limits, is not put into a buffer of a size
+abbrev pub NoRoom : ℕ → Option ℕ → Refusal → Type 0
+NoRoom size end Limit = end ≡ None
+NoRoom size end Room = (n : ℕ) × (end ≡ Some n) × (size < n)
+
+-- the same of work that ends at a place, of which there is none out of the limits
+abbrev pub PutUpTo : Bytes → Option ℕ → Type 0 → Result (Unit {0}) Refusal → Bytes → Type 0
+PutUpTo old end Done (Ok u) new = (n : ℕ) × (end ≡ Some n) × (n ≤ length old) × Done
+PutUpTo old end Done (Err e) new = NoRoom (length old) end e × (new ≡ old)
+
 -- the same of bytes put at a place
 abbrev pub Put : Bytes → ℕ → ℕ → Bytes → Bool → Result (Unit {0}) Refusal → Bytes → Type 0
 Put old place size bytes lawful r new = PutTo old (place + size) lawful (new ≡ overwrite old place bytes) r new

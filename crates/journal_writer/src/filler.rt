@@ -1,14 +1,15 @@
 // A whole journal around pages that lie in a buffer already, at the places of their records: what
 // a store reads from its database before a commit goes straight there, and is not copied again.
 ghost use Rattle.std.specs.Prelude.{◌≡◌, ℕ, ◌+◌, ◌*◌, ◌<◌, ◌≤◌, true, false, ◌&&◌, slice_index, length as count_bytes};
+ghost use Rattle.std.specs.Bool.{then_some};
 ghost use Rattle.card.specs.Calls.{overwrite};
-ghost use Rattle.journal.specs.Format.{record_bytes, records_bytes, super_bytes};
-ghost use Rattle.journal.specs.Judged.{record_place as place_of, page_bytes};
+ghost use Rattle.journal.specs.Format.{records_bytes, super_bytes};
+ghost use Rattle.journal.specs.Judged.{record_place as place_of};
 ghost use Rattle.journal_writer.specs.Written.{Filled, made_lawful, ascend, pages_lawful, given_lawful, told, originals};
 
-use crate::writer::{Refusal, fill_header, fill_name, is_size, put_number};
+use crate::writer::{Refusal, fill_header, fill_name, is_size, room, seal_record};
 use card::is_name;
-use journal::{RECORD_LIMIT, SUPER_EXTRA, checksum, record_place};
+use journal::{RECORD_LIMIT, SUPER_EXTRA, record_place};
 
 /// Whether each page is past the one before it, and none past the size.
 fn ascends(pages: &[u32], size: u32) -> bool
@@ -47,17 +48,6 @@ fn super_length(name: Option<&[u8]>) -> usize
     name.map_or(0, |name| SUPER_EXTRA + name.len())
 }
 
-/// Makes a record of the page that lies at its place.
-fn seal_record(buffer: &mut [u8], index: u32, nonce: u32, page: u32)
-    requires { 512 + 520 * index + 520 ≤ count_bytes buffer.old }
-    ensures { buffer.new ≡ overwrite buffer.old (place_of index) (record_bytes nonce (record { page = page; bytes = page_bytes buffer.old index })) }
-{
-    let place = record_place(index);
-    let sum = checksum(nonce, &buffer[place + 4..place + 516]);
-    put_number(buffer, place, page);
-    put_number(buffer, place + 516, sum);
-}
-
 /// Makes records of the pages that lie at their places.
 fn seal_records(buffer: &mut [u8], nonce: u32, pages: &[u32])
     requires few { count_bytes pages.now ≤ 33 }
@@ -69,9 +59,19 @@ fn seal_records(buffer: &mut [u8], nonce: u32, pages: &[u32])
     }
 }
 
+/// How long the journal of the size, the pages and the name is; none if it may not be made.
+fn journal_length(size: u32, pages: &[u32], name: Option<&[u8]>) -> Option<usize>
+    ensures { result ≡ then_some (made_lawful size pages.now (told name.entry)) (place_of (count_bytes pages.now) + count_bytes (super_bytes (told name.entry))) }
+{
+    if !is_made(size, pages, name) {
+        return None;
+    }
+    Some(record_place(pages.len() as u32) + super_length(name))
+}
+
+// The answer is no slice of the buffer. Tried: of a buffer that an answer lends a part of, a proof knows nothing
+// afterwards, and the clause says what the buffer holds.
 /// Fills the buffer with a journal of count 0 around the pages that lie in it, and tells the journal's length.
-///
-/// Not by `put` of a part: how long the journal is can be told only of lawful numbers.
 pub fn fill_journal(
     buffer: &mut [u8],
     nonce: u32,
@@ -81,18 +81,11 @@ pub fn fill_journal(
 ) -> Result<usize, Refusal>
     ensures { Filled buffer.old nonce size pages.now (told name.entry) result buffer.new }
 {
-    if !is_made(size, pages, name) {
-        return Err(Refusal::Limit);
-    }
-    let end = record_place(pages.len() as u32);
-    let total = end + super_length(name);
-    if buffer.len() < total {
-        return Err(Refusal::Room);
-    }
+    let length = room(buffer, journal_length(size, pages, name))?;
     fill_header(buffer, nonce, size);
     seal_records(buffer, nonce, pages);
     if let Some(name) = name {
-        fill_name(buffer, end, name);
+        fill_name(buffer, record_place(pages.len() as u32), name);
     }
-    Ok(total)
+    Ok(length)
 }

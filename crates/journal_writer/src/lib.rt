@@ -1,6 +1,8 @@
 // Journals, written: their parts put into a caller's buffer, and whole journals stored on a card.
 //
 // The crate `journal` has what the bytes are, and judges them.
+//
+// `as` stands where a u32 and a usize meet, since there is no `From` between them.
 #![tactic(auto)]
 
 mod filler;
@@ -9,4 +11,4 @@ mod writer;
 
 pub use filler::fill_journal;
 pub use stored::store_journal;
-pub use writer::{Refusal, put_bytes, put_count, put_header, put_name, put_record};
+pub use writer::{Refusal, put_bytes, put_count, put_header, put_name, put_record, room};

@@ -1,12 +1,12 @@
 // The parts of a journal, put into a caller's buffer. A journal is written with count 0: the count
 // goes in apart, when all else is safe.
-ghost use Rattle.std.specs.Prelude.{◌≡◌, ℕ, ◌+◌, ◌*◌, ◌<◌, ◌≤◌, true, false, ◌&&◌, length as count_bytes, Some, IsTrue};
+ghost use Rattle.std.specs.Prelude.{◌≡◌, ℕ, ◌+◌, ◌*◌, ◌<◌, ◌≤◌, true, false, ◌&&◌, length as count_bytes, Some, MatchResult};
 ghost use Rattle.std.specs.Fn.{FnOnceTakesAtMut, FnOnceReturnsAtMut};
 ghost use Rattle.card.specs.Calls.{overwrite};
 ghost use Rattle.card.specs.Numbers.{number_bytes};
 ghost use Rattle.journal.specs.Format.{header as header_bytes, record_bytes, super_bytes, Octets};
-ghost use Rattle.journal.specs.Judged.{record_place as place_of};
-ghost use Rattle.journal_writer.specs.Written.{Put, PutTo, size_lawful, record_lawful, name_lawful, count_lawful};
+ghost use Rattle.journal.specs.Judged.{record_place as place_of, page_bytes};
+ghost use Rattle.journal_writer.specs.Written.{Put, PutUpTo, NoRoom, size_lawful, record_lawful, name_lawful, count_lawful};
 
 use card::is_name;
 use journal::{
@@ -53,22 +53,24 @@ pub fn fill_header(buffer: &mut [u8], nonce: u32, size: u32)
     put_number(buffer, 24, PAGE as u32);
 }
 
-/// Puts a part that ends at a place of the buffer, if it is within the limits and there is room.
-fn put<F: FnOnce(&mut [u8])>(
-    buffer: &mut [u8],
-    is_lawful: bool,
-    end: usize,
-    work: F,
-) -> Result<(), Refusal>
-    requires { IsTrue is_lawful → end ≤ count_bytes buffer.old → FnOnceTakesAtMut F.FnOnce work buffer.old }
-    ensures { PutTo buffer.old end is_lawful (FnOnceReturnsAtMut F.FnOnce work buffer.old tt buffer.new) result buffer.new }
+/// Where what is put into a buffer ends, if there is such an end, and room up to it. There is none of what is out of
+/// the limits.
+pub fn room(buffer: &[u8], end: Option<usize>) -> Result<usize, Refusal>
+    ensures { MatchResult result (λ n. (end ≡ Some n) × (n ≤ count_bytes buffer.now)) (NoRoom (count_bytes buffer.now) end) }
 {
-    if !is_lawful {
-        return Err(Refusal::Limit);
-    }
+    let end = end.ok_or(Refusal::Limit)?;
     if buffer.len() < end {
         return Err(Refusal::Room);
     }
+    Ok(end)
+}
+
+/// Puts a part that ends at a place of the buffer, if there is such an end, and room up to it.
+fn put<F: FnOnce(&mut [u8])>(buffer: &mut [u8], end: Option<usize>, work: F) -> Result<(), Refusal>
+    requires { (n : ℕ) → end ≡ Some n → n ≤ count_bytes buffer.old → FnOnceTakesAtMut F.FnOnce work buffer.old }
+    ensures { PutUpTo buffer.old end (FnOnceReturnsAtMut F.FnOnce work buffer.old tt buffer.new) result buffer.new }
+{
+    room(buffer, end)?;
     work(buffer);
     Ok(())
 }
@@ -84,9 +86,8 @@ pub fn is_size(size: u32) -> bool
 pub fn put_header(buffer: &mut [u8], nonce: u32, size: u32) -> Result<(), Refusal>
     ensures { Put buffer.old 0 512 (header_bytes 0 nonce size) (size_lawful size) result buffer.new }
 {
-    put(buffer, is_size(size), SECTOR, |buffer| {
-        fill_header(buffer, nonce, size)
-    })
+    let end = is_size(size).then_some(SECTOR);
+    put(buffer, end, |buffer| fill_header(buffer, nonce, size))
 }
 
 /// Whether a record may have the index, from 0, the page number and the page.
@@ -96,16 +97,26 @@ fn is_record(index: u32, page: u32, bytes: &[u8]) -> bool
     index < RECORD_LIMIT && is_page(page) && bytes.len() == PAGE
 }
 
-/// Puts the record of a page at a place.
-fn fill_record(buffer: &mut [u8], place: usize, nonce: u32, page: u32, bytes: &[u8])
-    requires room { place + 520 ≤ count_bytes buffer.old }
-    requires whole { count_bytes bytes.now ≡ 512 }
-    ensures { buffer.new ≡ overwrite buffer.old place (record_bytes nonce (record { page = page; bytes = bytes.now })) }
+/// Makes a record of the page that lies at its place.
+pub fn seal_record(buffer: &mut [u8], index: u32, nonce: u32, page: u32)
+    requires { 512 + 520 * index + 520 ≤ count_bytes buffer.old }
+    ensures { buffer.new ≡ overwrite buffer.old (place_of index) (record_bytes nonce (record { page = page; bytes = page_bytes buffer.old index })) }
 {
-    let sum = checksum(nonce, bytes);
+    let place = record_place(index);
+    let sum = checksum(nonce, &buffer[place + 4..place + 516]);
     put_number(buffer, place, page);
-    put_bytes(buffer, place + 4, bytes);
     put_number(buffer, place + 516, sum);
+}
+
+/// Puts the record of a page at its place.
+fn fill_record(buffer: &mut [u8], index: u32, nonce: u32, page: u32, bytes: &[u8])
+    requires room { 512 + 520 * index + 520 ≤ count_bytes buffer.old }
+    requires whole { count_bytes bytes.now ≡ 512 }
+    ensures { buffer.new ≡ overwrite buffer.old (place_of index) (record_bytes nonce (record { page = page; bytes = bytes.now })) }
+{
+    let place = record_place(index);
+    put_bytes(buffer, place + 4, bytes);
+    seal_record(buffer, index, nonce, page);
 }
 
 /// Puts the record of a page at its place, by its index from 0.
@@ -118,10 +129,9 @@ pub fn put_record(
 ) -> Result<(), Refusal>
     ensures { Put buffer.old (place_of index) 520 (record_bytes nonce (record { page = page; bytes = bytes.now })) (record_lawful index page bytes.now) result buffer.new }
 {
-    let place = record_place(index);
-    let is_lawful = is_record(index, page, bytes);
-    put(buffer, is_lawful, place + RECORD, |buffer| {
-        fill_record(buffer, place, nonce, page, bytes)
+    let end = is_record(index, page, bytes).then_some(record_place(index) + RECORD);
+    put(buffer, end, |buffer| {
+        fill_record(buffer, index, nonce, page, bytes)
     })
 }
 
@@ -152,17 +162,14 @@ pub fn put_name(buffer: &mut [u8], count: u32, name: &[u8]) -> Result<(), Refusa
     ensures { Put buffer.old (place_of count) (20 + count_bytes name.now) (super_bytes (Some name.now)) (name_lawful count name.now) result buffer.new }
 {
     let place = record_place(count);
-    let end = place + SUPER_EXTRA + name.len();
-    put(buffer, is_named(count, name), end, |buffer| {
-        fill_name(buffer, place, name)
-    })
+    let end = is_named(count, name).then_some(place + SUPER_EXTRA + name.len());
+    put(buffer, end, |buffer| fill_name(buffer, place, name))
 }
 
 /// Puts the count into the header at the start of the buffer.
 pub fn put_count(buffer: &mut [u8], count: u32) -> Result<(), Refusal>
     ensures { Put buffer.old 8 4 (number_bytes count) (count_lawful count) result buffer.new }
 {
-    put(buffer, count <= RECORD_LIMIT, 12, |buffer| {
-        put_number(buffer, 8, count)
-    })
+    let end = (count <= RECORD_LIMIT).then_some(12);
+    put(buffer, end, |buffer| put_number(buffer, 8, count))
 }

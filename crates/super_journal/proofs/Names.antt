@@ -1,8 +1,8 @@
 -- The names of a super-journal, cut at its zero bytes.
-use Rattle.std.proofs.Common.{◌≡◌, ℕ, Bool, true, false, zero, suc, ◌<◌, ◌≤◌, eqb, cond, List, [], ◌∷◌, ◌++◌, length, get_or, map, sym, refl, ap, ◌∙◌, subst, append_assoc, arith, length-append, Bor}
+use Rattle.std.proofs.Common.{◌≡◌, ℕ, Bool, true, false, zero, suc, ◌<◌, ◌≤◌, eqb, cond, List, [], ◌∷◌, ◌++◌, length, get_or, map, sym, refl, ap, ◌∙◌, subst, append_assoc, arith, Bor}
 use Rattle.std.specs.List.{All, AllByRecursion, slice_split, onto_first}
 use Rattle.std.proofs.lemmas.Bool.{ne_eqb, eqb-true, eqb-false}
-use Rattle.std.proofs.lemmas.List.{append_cancel_right, get_or_default, map-append}
+use Rattle.std.proofs.lemmas.List.{append_cancel_right, get_or_default}
 use Rattle.std.proofs.lemmas.List.Splits.{slice_split_at, length-slice_split}
 use Rattle.std.proofs.lemmas.Iterator.{YieldsList}
 use Rattle.std.proofs.lemmas.Iterator.Consumers.{YieldsList-at}
@@ -108,21 +108,6 @@ pub record Taken (given names : List (Bor Bytes)) : Type 0 where
   pub all : names ≡ given
   pub few : length names ≤ 4
   pub each : AllByRecursion Long (texts names)
-
-pub taken_none : Taken [] []
-taken_none = record { all = refl; few = omega arith; each = tt }
-
-pub taken_more : (given names : List (Bor Bytes)) (name : Bor Bytes) → Taken given names → length names < 4 → Long name.now → Taken (given ++ (name ∷ [])) (names ++ (name ∷ []))
-taken_more given names name so_far room long =
-    record {
-      all = ap (λ (ns : List (Bor Bytes)). ns ++ (name ∷ [])) so_far.all;
-      few = omega (arith, length-append names (name ∷ []));
-      each = subst (AllByRecursion Long) (sym (map-append (λ (r : Bor Bytes). r.now) names (name ∷ []))) (push (texts names) so_far.each);
-    }
-  where
-    push : (ns : List Name) → AllByRecursion Long ns → AllByRecursion Long (ns ++ (name.now ∷ []))
-    push [] all = (long, tt)
-    push (n ∷ ns) all = (all.0, push ns all.1)
 
 plain_each : (ns : List Name) → AllByRecursion Long ns → AllByRecursion Unbroken ns → AllByRecursion Plain ns
 plain_each [] long un = tt

@@ -1,11 +1,11 @@
 // The super-journal file, put into a caller's buffer.
-ghost use Rattle.std.specs.Prelude.{◌≡◌, ℕ, ◌+◌, ◌*◌, ◌<◌, ◌≤◌, ◌^◌, sum_by, [], ◌∷◌, ◌++◌, take, length as count_of, Decides};
+ghost use Rattle.std.specs.Prelude.{◌≡◌, ℕ, ◌+◌, ◌*◌, ◌<◌, ◌≤◌, ◌^◌, sum_by, [], ◌∷◌, ◌++◌, take, length as count_of, Decides, MatchOption};
 ghost use Rattle.card.specs.Calls.{overwrite};
 ghost use Rattle.super_journal.specs.Super.{super_journal_bytes as names_bytes, LawfulNames, Plain};
 ghost use Rattle.super_journal.specs.Written.{Named, texts};
 
 use crate::reader::{NAME_COUNT_LIMIT, is_length};
-use journal_writer::{Refusal, put_bytes};
+use journal_writer::{Refusal, put_bytes, room};
 
 /// Whether a name can stand in a super-journal: 1 to 32 bytes, none of them zero.
 fn is_plain(name: &[u8]) -> bool
@@ -21,12 +21,22 @@ fn names_hold(names: &[&[u8]]) -> bool
     (1..=NAME_COUNT_LIMIT).contains(&names.len()) && names.iter().all(|name| is_plain(name))
 }
 
-/// How long the super-journal of the names is.
+/// How long the names are, each with its zero byte.
 fn names_length(names: &[&[u8]]) -> usize
     requires { sum_by (λ n. count_of n.now + 1) names.now < 2 ^ 64 }
     ensures { result ≡ count_of (names_bytes (texts names.now)) }
 {
     names.iter().map(|name| name.len() + 1).sum()
+}
+
+/// How long the super-journal of the names is; none if it cannot have them.
+fn super_length(names: &[&[u8]]) -> Option<usize>
+    ensures { MatchOption result (LawfulNames (texts names.now) → ⊥) (λ n. LawfulNames (texts names.now) × (n ≡ count_of (names_bytes (texts names.now)))) }
+{
+    if !names_hold(names) {
+        return None;
+    }
+    Some(names_length(names))
 }
 
 /// Puts a name at a place, with the zero byte that ends it, and tells where it ends. For the crates of this
@@ -55,19 +65,13 @@ fn fill_names(buffer: &mut [u8], names: &[&[u8]])
     }
 }
 
+// The answer is no slice of the buffer. Tried: of a buffer that an answer lends a part of, a proof knows nothing
+// afterwards, and the clause says what the buffer holds.
 /// Fills the buffer with the super-journal of the names, and tells its length.
-///
-/// Not as the writer of journals puts a part: how long it is can be told only of lawful names.
 pub fn put_names(buffer: &mut [u8], names: &[&[u8]]) -> Result<usize, Refusal>
     ensures { Named buffer.old (texts names.now) result buffer.new }
 {
-    if !names_hold(names) {
-        return Err(Refusal::Limit);
-    }
-    let total = names_length(names);
-    if buffer.len() < total {
-        return Err(Refusal::Room);
-    }
+    let length = room(buffer, super_length(names))?;
     fill_names(buffer, names);
-    Ok(total)
+    Ok(length)
 }

@@ -1,16 +1,9 @@
-use Rattle.std.proofs.Common.{ℕ, ◌+◌, ap, ◌∙◌}
-use Rattle.card.specs.Meaning.{Bytes}
-use Rattle.card.specs.Calls.{overwrite}
-use Rattle.card.specs.Numbers.{number_bytes}
-use Rattle.journal.specs.Format.{checksum}
-use Rattle.journal_writer.proofs.Filled.{record_filled}
+use Rattle.std.proofs.Common.{◌≡◌, ◌+◌, arith}
+use Rattle.journal.specs.Judged.{record_place}
+use Rattle.journal_writer.proofs.Sealed.{record_put}
 use Rattle.journal_writer.proofs.writer.fill_record.Goals as goal
 
 pub returns : goal.returns
 returns c =
-    let bytes = c.args.bytes.now in
-    let at = c.args.place in
-    c.put_number-2.ensures
-    ∙ ap (λ (n : ℕ). overwrite c.put_bytes.new.buffer (at + 516) (number_bytes n)) c.checksum-sum.ensures
-    ∙ ap (λ (t : Bytes). overwrite t (at + 516) (number_bytes (checksum c.args.nonce bytes))) (c.put_bytes.ensures ∙ ap (λ (t : Bytes). overwrite t (at + 4) bytes) c.put_number.ensures)
-    ∙ record_filled c.args.buffer.now at c.args.nonce c.args.page bytes c.requires.whole c.requires.room
+    let at : c.record_place-place.result + 4 ≡ record_place c.args.index + 4 = omega (arith, c.record_place-place.ensures) in
+    record_put c.args.buffer.now c.put_bytes.new.buffer _ c.args.index c.args.nonce c.args.page c.args.bytes.now (c.record_place-place.result + 4) at c.requires.whole c.requires.room c.put_bytes.ensures c.seal_record.ensures

@@ -1,9 +1,9 @@
-use Rattle.std.proofs.Common.{◌≡◌, ℕ, false, ◌<◌, ◌≤◌, leb, eqb, [], ◌∷◌, length, sym, ap, ◌∙◌, arith, rules}
-use Rattle.std.proofs.lemmas.Bool.{and_from, and_parts, both_ways, le-leb, leb-true, eq-eqb, eqb-true}
+use Rattle.std.proofs.Common.{leb, [], ◌∷◌, length, sym, ap, ◌∙◌, arith, rules}
+use Rattle.std.proofs.lemmas.Bool.{and_from, both_ways, le-leb, eqb-true}
 use Rattle.std.proofs.lemmas.Bool.Decides.{Decides-eqb}
 use Rattle.std.proofs.lemmas.Iterator.Consumers.{YieldsList-turn, YieldsList-end}
 use Rattle.std.proofs.lemmas.Slice.Eq.{strip_suffix_is}
-use Rattle.super_journal.proofs.Names.{super_ends, splits, taken_none, taken_more, all_taken, part_fits}
+use Rattle.super_journal.proofs.Names.{super_ends, splits, all_taken, part_fits}
 use Rattle.super_journal.proofs.reader.read_names.Goals as goal
 use Rattle.super_journal.proofs.reader.read_names.Goals.{then-is_full-via-then-is_full, then-is_full-via-else-is_full+then-not-is_length}
 
@@ -12,9 +12,6 @@ returns-in_err-front c =
     let cut = strip_suffix_is Decides-eqb c.args.bytes.now (0 ∷ []) c.strip_suffix.result c.strip_suffix.ensures.cases in
     let none = rw c.in_err-front.was at cut in
     rw c.from_residual.ensures (λ ns ok e. let ends = super_ends ns ok.some in none ends.0 (e ∙ ends.1))
-
-pub loop-name-init : goal.loop-name-init
-loop-name-init c = rw c.new-names.ensures taken_none
 
 pub returns-then-is_full : goal.returns-then-is_full
 returns-then-is_full c =
@@ -29,16 +26,6 @@ returns-then-is_full c =
       | then-is_full-via-then-is_full w ↦ omega (arith, fit, ap length c.loop-name.invariant.all, eqb-true _ 4 (sym c.is_full.ensures ∙ w.if-is_full.true))
       | then-is_full-via-else-is_full+then-not-is_length w ↦ both_ways _ w.if-not-is_length.true (w.is_length.ensures ∙ and_from (leb 1 n) (leb n 32) (le-leb 1 n fit.1.0) (le-leb n 32 fit.1.1))
     ]
-
-pub loop-name-preserved : goal.loop-name-preserved
-loop-name-preserved c =
-    let names = c.loop-name.names.items in
-    let n = length c.in-Some.name.now in
-    let fit = and_parts (leb 1 n) (leb n 32) (sym c.if-not-is_length.ensures) in
-    rw c.push.ensures (taken_more c.loop-name.yielded names c.in-Some.name c.loop-name.invariant (room (length names) c.loop-name.invariant.few c.if-is_full.ensures) (leb-true 1 n fit.0, leb-true n 32 fit.1))
-  where
-    room : (k : ℕ) → k ≤ 4 → false ≡ eqb k 4 → k < 4
-    room k few not = let ne : k ≡ 4 → ⊥ = λ is. both_ways _ (sym not) (eq-eqb k 4 is) in omega arith
 
 pub returns : goal.returns
 returns c =

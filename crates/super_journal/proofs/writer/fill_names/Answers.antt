@@ -1,5 +1,4 @@
-use Rattle.std.proofs.Common.{◌+◌, ◌<◌, List, [], ◌∷◌, ◌++◌, length, sym, refl, ap, ◌∙◌, arith}
-use Rattle.std.proofs.lemmas.List.{take_all}
+use Rattle.std.proofs.Common.{◌+◌, ◌<◌, [], ◌∷◌, ◌++◌, length, sym, refl, ap, ◌∙◌, arith}
 use Rattle.card.specs.Meaning.{Name}
 use Rattle.card.specs.Calls.{overwrite}
 use Rattle.super_journal.specs.Super.{super_journal_bytes}
@@ -31,8 +30,3 @@ loop-name-preserved c =
           (c.put_ended-end.ensures.put ∙ ap (λ (n : Name). overwrite c.loop-name.buffer c.loop-name.end (n ++ (0 ∷ []))) (sym name)),
       omega (arith, c.put_ended-end.ensures.end, length_more ns k inside, size),
     )
-
-pub returns : goal.returns
-returns c =
-    let ns = texts c.args.names.now in
-    c.loop-name.invariant.0 ∙ ap (λ (l : List Name). overwrite c.args.buffer.now 0 (super_journal_bytes l)) (take_all c.loop-name.name-index ns (omega (arith, length_texts c.args.names.now)))

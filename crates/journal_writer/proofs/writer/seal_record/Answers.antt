@@ -5,7 +5,7 @@ use Rattle.card.specs.Numbers.{number_bytes}
 use Rattle.journal.specs.Format.{checksum}
 use Rattle.journal.specs.Judged.{page_bytes, record_place}
 use Rattle.journal_writer.proofs.Sealed.{record_sealed}
-use Rattle.journal_writer.proofs.filler.seal_record.Goals as goal
+use Rattle.journal_writer.proofs.writer.seal_record.Goals as goal
 
 pub returns : goal.returns
 returns c =

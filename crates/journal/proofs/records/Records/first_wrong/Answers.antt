@@ -4,7 +4,7 @@ use Rattle.std.proofs.lemmas.Iterator.{first_from_Range}
 use Rattle.card.specs.Meaning.{Bytes}
 use Rattle.journal.specs.Judged.{record_right}
 use Rattle.journal.specs.Fronts.{FirstWrong}
-use Rattle.journal.proofs.records.first_wrong.Goals as goal
+use Rattle.journal.proofs.records.Records.first_wrong.Goals as goal
 
 first_is :
     (b : Bytes) (n : ℕ) (r : Option ℕ) →
@@ -14,6 +14,6 @@ first_is b n (Some i) first = (first.1, λ k lt. first.3 k (omega arith) lt, fir
 
 pub returns : goal.returns
 returns c =
-    let b = c.args.bytes.now in
-    first_is b c.args.header.count c.find.result
+    let b = c.args.self.now.bytes.now in
+    first_is b c.args.self.now.header.count c.find.result
     (first_from_Range _ _ _ c.find.result (λ k. record_right b k ≡ false) (λ k. record_right b k ≡ true) c.find.ensures.ran (λ x q h. search rules) (λ x q h. search rules))
