@@ -1,7 +1,8 @@
 // Rounds through the databases that a commit changes, in order.
 //
-// Each is a short `for`: one round for all, over a closure, would have to say by clauses when the closure
-// may be called and what it leaves at each turn.
+// Each is a short `for`: after `try_for_each` a proof knows nothing of what its closure did to the card, and
+// a round of our own over a closure would have to say by clauses when the closure may be called and what it
+// leaves at each turn.
 ghost use Rattle.std.specs.Prelude.{◌≡◌, ℕ, ◌<◌, List};
 ghost use Rattle.names.specs.Files.{how_many};
 ghost use Rattle.steps.specs.Tasks.{Went};

@@ -1,5 +1,5 @@
 -- A journal is made: created, read, filled and stored, one after the other.
-use Rattle.std.proofs.Common.{◌≡◌, ℕ, ◌+◌, ◌-◌, ◌<◌, List, [], ◌∷◌, ◌++◌, map, length, take, Ok, Err, Result, ap, ◌∙◌, subst, arith}
+use Rattle.std.proofs.Common.{◌≡◌, ℕ, ◌+◌, ◌-◌, ◌<◌, List, [], ◌∷◌, ◌++◌, map, length, take, Ok, Err, Result, refl, ap, ◌∙◌, subst, arith}
 use Rattle.std.proofs.lemmas.List.{take_at}
 use Rattle.card.specs.Meaning.{Meaning, Bytes, Name}
 use Rattle.card.specs.Calls.{create}
@@ -11,8 +11,9 @@ use Rattle.names.specs.declared.names.Names.{Names}
 use Rattle.names.proofs.Files.{database_is_file, journal_is_file, files_apart}
 use Rattle.refusal.specs.declared.fault.SetFault.{SetFault}
 use Rattle.refusal.specs.declared.step.Step.TheVariants.{C2}
-use Rattle.steps.specs.Tasks.{Task, tasks, Went, at}
-use Rattle.steps.proofs.Went.{went_then, went_stop}
+use Rattle.steps.specs.declared.site.Site.{Site}
+use Rattle.steps.specs.Tasks.{Task, task, tasks, Went, at}
+use Rattle.steps.proofs.Went.{went_then, went_stop, went_as}
 use Rattle.journaling.specs.declared.journals.Journals.{Journals}
 use Rattle.journaling.specs.Plan.{Change, original, journal_of, read_tasks, call, journal_tasks}
 use Rattle.journaling.specs.Changes.{contents}
@@ -39,6 +40,10 @@ module _ {C : Type 0} (m : Meaning C) (j : Journals) (d : ℕ) (c c₁ : C) wher
   -- all of it
   abbrev pub Made : Result (Unit {0}) SetFault → C → Type 0
   Made r c' = Went m (journal_tasks file j.nonce (super_named j) ch) c r c'
+
+  -- it is created from the site and by the name of its number
+  pub created_as : {V : Type 0} (r : Result V SetFault) (k : ℕ) (s : Site) (n : Name) → k ≡ 4 + d → s ≡ at C2 k → n ≡ file k → Went m (task s n create ∷ []) c r c₁ → Went m made c r c₁
+  created_as r k s n ek es en w = went_as m c c₁ r s (at C2 (4 + d)) n (file (4 + d)) create create (es ∙ ap (at C2) ek) (en ∙ ap file ek) refl w
 
   -- the journal is not created
   pub not_created : (f : SetFault) → Went m {V = Unit {0}} made c (Err f) c₁ → Made (Err f) c₁

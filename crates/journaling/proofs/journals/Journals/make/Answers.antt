@@ -1,21 +1,18 @@
-use Rattle.std.proofs.Common.{◌≡◌, ◌+◌, refl, ◌∙◌, arith}
+use Rattle.std.proofs.Common.{◌≡◌, ◌∙◌, arith}
 use Rattle.std.proofs.lemmas.Result.{err_from_is_err_and}
-use Rattle.card.specs.Calls.{create}
 use Rattle.pager.proofs.Counted.{changed_few}
-use Rattle.refusal.specs.declared.step.Step.TheVariants.{C2}
-use Rattle.steps.specs.Tasks.{at}
-use Rattle.steps.proofs.Went.{went_as, went_acted}
-use Rattle.journaling.specs.Made.{files, size_of}
+use Rattle.steps.proofs.Went.{went_acted}
+use Rattle.journaling.specs.Made.{size_of}
 use Rattle.journaling.proofs.Recorded.{recorded_ok}
 use Rattle.journaling.proofs.Fills.{recorded_lawful, super_lawful, not_refused}
-use Rattle.journaling.proofs.Makes.{not_created, not_read, stored_whole}
+use Rattle.journaling.proofs.Makes.{created_as, not_created, not_read, stored_whole}
 use Rattle.journaling.proofs.journals.Journals.make.Goals as goal
 
 pub returns-in_err-create : goal.returns-in_err-create
 returns-in_err-create g c =
     let p = err_from_is_err_and c.from_residual.result c.from_residual.ensures.1 in
     rw (p.1, p.2)
-    (not_created _ c.args.self.now c.args.database _ _ _ (went_as _ _ _ _ _ _ _ _ create create (rw c.journal_of-number.ensures at c.new-site.ensures) (rw c.journal_of-number.ensures at (c.bytes.ensures ∙ c.file-journal.ensures)) refl c.in_err-create.ensures))
+    (not_created _ c.args.self.now c.args.database _ _ _ (created_as g.C.Card.meaning c.args.self.now c.args.database _ _ _ _ _ _ c.journal_of-number.ensures c.new-site.ensures (c.bytes.ensures ∙ c.file-journal.ensures) c.in_err-create.ensures))
 
 pub read_originals-requires : goal.read_originals-requires
 read_originals-requires g c =
@@ -27,26 +24,25 @@ returns-in_err-read_originals g c =
     let size : c.get-size.result ≡ size_of c.args.self.now c.args.database = c.get-size.ensures.is (omega (arith, c.requires, c.args.self.now.names.now.list.few)) in
     let is = rw size at (c.as_slice-pages.ensures.is ∙ c.recorded_pages-recorded.ensures) in
     let name = c.bytes-2.ensures ∙ c.file-file.ensures in
-    let created = went_as g.C.Card.meaning _ _ _ _ (at C2 (4 + c.args.database)) _ (files c.args.self.now (4 + c.args.database)) create create (rw c.journal_of-number.ensures at c.new-site.ensures) (rw c.journal_of-number.ensures at (c.bytes.ensures ∙ c.file-journal.ensures)) refl c.in_ok-create.ensures in
+    let created = created_as g.C.Card.meaning c.args.self.now c.args.database _ _ _ _ _ _ c.journal_of-number.ensures c.new-site.ensures (c.bytes.ensures ∙ c.file-journal.ensures) c.in_ok-create.ensures in
     let p = err_from_is_err_and c.from_residual-in_err-read_originals.result c.from_residual-in_err-read_originals.ensures.1 in
     rw (p.1, p.2) (not_read _ c.args.self.now c.args.database _ _ created _ _ (rw (name, is) at c.in_err-read_originals.ensures.went))
 
 pub unwrap-length-requires : goal.unwrap-length-requires
 unwrap-length-requires g c =
     let is = c.as_slice-pages.ensures.is ∙ c.recorded_pages-recorded.ensures in
-    let memory = c.args.self.now.memory.now in
     let some = c.get-size.ensures.some in
     let small = c.get-size.ensures.small in
     let super = super_lawful c.args.self.now.super_journal c.args.self.now.named in
     not_refused _ _ _ _ _ _ c.fill_journal.result some small
-    (rw is (recorded_lawful _ c.get-size.result some small (changed_few memory c.args.database (omega (arith, c.requires, c.args.self.now.names.now.list.few))))) (rw c.super_name-name.ensures super) c.read_originals.array_long c.fill_journal.ensures
+    (rw is (recorded_lawful _ c.get-size.result some small (changed_few c.args.self.now.memory.now c.args.database (omega (arith, c.requires, c.args.self.now.names.now.list.few))))) (rw c.super_name-name.ensures super) c.read_originals.array_long c.fill_journal.ensures
 
 pub returns : goal.returns
 returns g c =
     let size : c.get-size.result ≡ size_of c.args.self.now c.args.database = c.get-size.ensures.is (omega (arith, c.requires, c.args.self.now.names.now.list.few)) in
     let is = rw size at (c.as_slice-pages.ensures.is ∙ c.recorded_pages-recorded.ensures) in
     let name = c.bytes-2.ensures ∙ c.file-file.ensures in
-    let created = went_as g.C.Card.meaning _ _ _ _ (at C2 (4 + c.args.database)) _ (files c.args.self.now (4 + c.args.database)) create create (rw c.journal_of-number.ensures at c.new-site.ensures) (rw c.journal_of-number.ensures at (c.bytes.ensures ∙ c.file-journal.ensures)) refl c.in_ok-create.ensures in
+    let created = created_as g.C.Card.meaning c.args.self.now c.args.database _ _ _ _ _ _ c.journal_of-number.ensures c.new-site.ensures (c.bytes.ensures ∙ c.file-journal.ensures) c.in_ok-create.ensures in
     let stored = went_acted g.C.Card.meaning _ _ _ _ _ _ c.told.ensures c.store_journal.ensures in
     let filled = rw (c.unwrap-length.ensures, is, size, c.super_name-name.ensures) at c.fill_journal.ensures in
     stored_whole _ c.args.self.now c.args.database _ _ created _ _ _ _ c.requires (rw (name, is) at c.in_ok-read_originals.ensures.went) (rw (name, is) at c.in_ok-read_originals.ensures.read) filled _ _
