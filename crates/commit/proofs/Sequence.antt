@@ -94,7 +94,7 @@ module _ {C : Type 0} (m : Meaning C) (w : Work) (nonce : ℕ) (base : List ℕ)
   not_super : (k : ℕ) → k < how_many w.names.now → file k ≡ file 8 → ⊥
   not_super k lt =
       let names : Names = w.names.now in
-      files_apart names k 8 (database_is_file (how_many names) k lt) (super_is_file (how_many names)) (λ e. omega (arith, names.few))
+      files_apart names k 8 (database_is_file (how_many names) k lt) (super_is_file (how_many names)) (λ e. omega (arith, names.list.few))
 
   module _ (c₁ : C) (opened : Went m {V = Unit {0}} opening c (Ok tt) c₁) where
     -- the databases hold what they held

@@ -38,8 +38,8 @@ impl SetFault {
     {
         SetFault {
             journal: JournalFault {
-                card: self.journal.card,
                 record,
+                ..self.journal
             },
             step,
             file,

@@ -1,11 +1,5 @@
 -- Sizes of four databases in pages: each is 1 to 4,096.
 use Rattle.std.specs.Prelude.{ℕ, ◌<◌, ◌≤◌, List, slice_index}
 
-abbrev pub EachSome : List ℕ → Type 0
-EachSome rows = (i : ℕ) → i < 4 → 1 ≤ slice_index rows i
-
-abbrev pub EachSmall : List ℕ → Type 0
-EachSmall rows = (i : ℕ) → i < 4 → slice_index rows i ≤ 4096
-
 abbrev pub Fitting : List ℕ → Type 0
-Fitting rows = EachSome rows × EachSmall rows
+Fitting rows = (i : ℕ) → i < 4 → (1 ≤ slice_index rows i) × (slice_index rows i ≤ 4096)

@@ -1,4 +1,4 @@
-// The calls of a card, each from a site.
+// The calls of a card, each from a site; what each takes beside the site is what the card's own call takes.
 #![tactic(auto, using(crate::proofs::Went::went_one, crate::proofs::Went::told_length, crate::proofs::Went::told_bytes))]
 
 ghost use Rattle.std.specs.Prelude.{◌≡◌, [], ◌∷◌, length as count};

@@ -8,11 +8,11 @@ use Rattle.refusal.specs.declared.refusals.Refusal.{Refusal}
 use Rattle.pager.specs.declared.memory.Memory.{Memory}
 use Rattle.store.specs.declared.set.Set.{Set}
 use Rattle.store.specs.Calls.{or_else, ButMemory}
-use Rattle.sizes.specs.Fitting.{EachSome, EachSmall}
+use Rattle.sizes.specs.Fitting.{Fitting}
 
 -- the set with another memory
-abbrev pub with_memory : {C : Type 0} (s : Set C) (m : Memory) → m.count ≡ how_many s.names → EachSome m.sizes → EachSmall m.sizes → Set C
-with_memory s m tied some small = record {
+abbrev pub with_memory : {C : Type 0} (s : Set C) (m : Memory) → m.count ≡ how_many s.names → Fitting m.sizes → Set C
+with_memory s m tied fitting = record {
   card = s.card;
   names = s.names;
   memory = m;
@@ -21,18 +21,17 @@ with_memory s m tied some small = record {
   begun = s.begun;
   buffer = s.buffer;
   tied = tied;
-  some = some;
-  small = small;
+  fitting = fitting;
 }
 
 pub same_memory :
-    {C : Type 0} (s : Set C) (m : Memory) (tied : m.count ≡ how_many s.names) (some : EachSome m.sizes) (small : EachSmall m.sizes) → m ≡ s.memory →
-    with_memory s m tied some small ≡ s
-same_memory {C} s m tied some small e =
-    subst (λ (x : Memory). (t : x.count ≡ how_many s.names) (a : EachSome x.sizes) (b : EachSmall x.sizes) → with_memory s x t a b ≡ s) (sym e)
-    (λ t a b i. with_memory s s.memory (ℕ_set _ _ t s.tied i) (λ k lt. le_prop (a k lt) (s.some k lt) i) (λ k lt. le_prop (b k lt) (s.small k lt) i)) tied some small
+    {C : Type 0} (s : Set C) (m : Memory) (tied : m.count ≡ how_many s.names) (fitting : Fitting m.sizes) → m ≡ s.memory →
+    with_memory s m tied fitting ≡ s
+same_memory {C} s m tied fitting e =
+    subst (λ (x : Memory). (t : x.count ≡ how_many s.names) (f : Fitting x.sizes) → with_memory s x t f ≡ s) (sym e)
+    (λ t f i. with_memory s s.memory (ℕ_set _ _ t s.tied i) (λ k lt. (le_prop (f k lt).0 (s.fitting k lt).0 i, le_prop (f k lt).1 (s.fitting k lt).1 i))) tied fitting
 
-pub but_memory : {C : Type 0} {s t : Set C} {m : Memory} {tied : m.count ≡ (how_many t.names)} {some : EachSome m.sizes} {small : EachSmall m.sizes} → t ≡ s → ButMemory s (with_memory t m tied some small)
+pub but_memory : {C : Type 0} {s t : Set C} {m : Memory} {tied : m.count ≡ (how_many t.names)} {fitting : Fitting m.sizes} → t ≡ s → ButMemory s (with_memory t m tied fitting)
 but_memory {C} e =
     record {
       card = ap (λ (x : Set C). x.card) e;

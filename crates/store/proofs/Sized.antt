@@ -13,7 +13,7 @@ use Rattle.recovery.specs.Recovered.{report, AfterSettled, AfterSurvey, Recovere
 use Rattle.store.specs.Recovers.{Sized}
 
 fitting : (files : Holds) (file : ℕ → Name) (n : ℕ) (rows : List ℕ) → Sizes files file n rows → Fitting rows
-fitting files file n rows s = (λ i lt. (by i lt (cases_lt i n)).0, λ i lt. (by i lt (cases_lt i n)).1)
+fitting files file n rows s = λ i lt. by i lt (cases_lt i n)
   where
     by : (i : ℕ) → i < 4 → (i < n) ⊎ (n ≤ i) → (1 ≤ get_or rows i 0) × (get_or rows i 0 ≤ 4096)
     by i lt (inl low) = let p = s.each i low in (p.2.some, p.2.few)

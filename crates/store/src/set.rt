@@ -1,7 +1,7 @@
 // The set: its card, its names, and what it holds in memory.
 ghost use Rattle.std.specs.Prelude.{◌≡◌};
 ghost use Rattle.names.specs.Files.{how_many};
-ghost use Rattle.sizes.specs.Fitting.{EachSome, EachSmall};
+ghost use Rattle.sizes.specs.Fitting.{Fitting};
 
 use crate::mode::Mode;
 use journal::JOURNAL_LIMIT;
@@ -31,6 +31,5 @@ pub struct Set<C> {
     begun: u32,
     buffer: [u8; JOURNAL_LIMIT],
     ghost tied: { memory.count ≡ how_many names },
-    ghost some: { EachSome memory.sizes },
-    ghost small: { EachSmall memory.sizes },
+    ghost fitting: { Fitting memory.sizes },
 }

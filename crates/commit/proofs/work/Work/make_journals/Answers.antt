@@ -13,7 +13,7 @@ use Rattle.commit.proofs.work.Work.make_journals.Goals as goal
 not_journal : (w : Work) (d k : ℕ) → d < how_many w.names.now → k < how_many w.names.now → files w k ≡ files w (4 + d) → ⊥
 not_journal w d k ld lk =
     let names : Names = w.names.now in
-    files_apart names k (4 + d) (database_is_file (how_many names) k lk) (journal_is_file (how_many names) d ld) (λ e. omega (arith, names.few))
+    files_apart names k (4 + d) (database_is_file (how_many names) k lk) (journal_is_file (how_many names) d ld) (λ e. omega (arith, names.list.few))
 
 pub loop-database-init : goal.loop-database-init
 loop-database-init g c = making_none _ _ _ _ _ _ _ _ _
@@ -23,7 +23,7 @@ loop-database-preserved g c =
     let w = c.args.self.now in
     let i = c.loop-database.database-index in
     let below = c.changed-database-items.ensures.named i c.loop-database-test.true in
-    making_more _ _ _ _ _ _ _ _ _ i _ _ c.loop-database-test.true c.get.result below (c.get.ensures.is (omega (arith, below, w.names.now.few))) (λ k low. not_journal w _ k below low) c.loop-database.invariant
+    making_more _ _ _ _ _ _ _ _ _ i _ _ c.loop-database-test.true c.get.result below (c.get.ensures.is (omega (arith, below, w.names.now.list.few))) (λ k low. not_journal w _ k below low) c.loop-database.invariant
     (rw c.many.ensures at c.in_ok-make.ensures)
 
 pub returns-in_err-make : goal.returns-in_err-make
@@ -34,7 +34,7 @@ returns-in_err-make g c =
     let p = err_from_is_err_and c.from_residual.result c.from_residual.ensures.1 in
     λ stored s.
     rw (p.1, p.2)
-    (making_stop _ _ _ _ _ _ _ _ _ i _ _ c.loop-database-test.true c.get.result below (c.get.ensures.is (omega (arith, below, w.names.now.few))) (λ k low. not_journal w _ k below low) c.loop-database.invariant
+    (making_stop _ _ _ _ _ _ _ _ _ i _ _ c.loop-database-test.true c.get.result below (c.get.ensures.is (omega (arith, below, w.names.now.list.few))) (λ k low. not_journal w _ k below low) c.loop-database.invariant
     _ c.changed-database-items.ensures.is _ (rw c.many.ensures at c.in_err-make.ensures) stored s)
 
 pub returns : goal.returns

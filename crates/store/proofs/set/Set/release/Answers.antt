@@ -8,6 +8,6 @@ pub invariant_of-self : goal.invariant_of-self
 invariant_of-self g c =
     let at = c.admit.new.self in
     let bounds =
-    held_bounded at.memory c.release.new.self (record { some = at.some; small = at.small }) (refused c.release.result) c.release.ensures.kept
+    held_bounded at.memory c.release.new.self at.fitting (refused c.release.result) c.release.ensures.kept
     (λ ok files i. ap (λ (x : Machine). x.held.current i) (c.release.ensures.done ok files)) in
-    record { tied = c.release.ensures.count ∙ at.tied; some = bounds.some; small = bounds.small }
+    record { tied = c.release.ensures.count ∙ at.tied; fitting = bounds }

@@ -8,6 +8,6 @@ pub invariant_of-self : goal.invariant_of-self
 invariant_of-self g c =
     let at = c.admit.new.self in
     let bounds =
-    held_bounded at.memory c.push.new.self (record { some = at.some; small = at.small }) (refused c.push.result) c.push.ensures.kept
+    held_bounded at.memory c.push.new.self at.fitting (refused c.push.result) c.push.ensures.kept
     (λ ok files i. ap (λ (x : Machine). x.held.current i) (c.push.ensures.done ok files)) in
-    record { tied = c.push.ensures.count ∙ at.tied; some = bounds.some; small = bounds.small }
+    record { tied = c.push.ensures.count ∙ at.tied; fitting = bounds }

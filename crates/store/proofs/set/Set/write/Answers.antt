@@ -7,6 +7,6 @@ pub invariant_of-self : goal.invariant_of-self
 invariant_of-self g c =
     let at = c.admit.new.self in
     let bounds =
-    write_bounded at.memory c.write.new.self (record { some = at.some; small = at.small }) (refused c.write.result) c.args.database c.args.page c.args.bytes.now c.write.ensures.refusal c.write.ensures.kept
+    write_bounded at.memory c.write.new.self at.fitting (refused c.write.result) c.args.database c.args.page c.args.bytes.now c.write.ensures.refusal c.write.ensures.kept
     c.write.ensures.done in
-    record { tied = c.write.ensures.count ∙ at.tied; some = bounds.some; small = bounds.small }
+    record { tied = c.write.ensures.count ∙ at.tied; fitting = bounds }
