@@ -95,6 +95,12 @@ module _ {C : Type 0} (m : Meaning C) where
       {V : Type 0} (step : Step) (file : ℕ → Name) (c c₁ : C) (e : Refusal) (r : Result V Refusal) → IsErrAnd r (λ x. x ≡ e) → Looked m step file c (stop_of e) c₁ → Looked m step file c (dropped r) c₁
   looked_refused {V} step file c c₁ e r h p = subst (λ (x : Result V Refusal). Looked m step file c (dropped x) c₁) (sym (passed_up r e h)) p
 
+  -- looks, and after them one that was refused
+  pub looked_up :
+      {V : Type 0} (step : Step) (file : ℕ → Name) (c c₁ c₂ : C) (e : Refusal) (r : Result V Refusal) → IsErrAnd r (λ x. x ≡ e) → Looked m step file c (Ok tt) c₁ → Looked m step file c₁ (stop_of e) c₂ →
+      Looked m step file c (dropped r) c₂
+  looked_up step file c c₁ c₂ e r h p q = looked_refused step file c c₂ e r h (looked_then m step file c c₁ c₂ (stop_of e) p q)
+
 -- a told length is that of a present file
 pub told_some : (f : Option Bytes) (n : ℕ) → Some n ≡ length_told f → (b : Bytes) × (f ≡ Some b) × (n ≡ length b)
 told_some None n e = let z : ◌≡◌ {A = ℕ} 0 1 = cc in absurd (omega arith)

@@ -1,7 +1,7 @@
 -- What was found of journals: one by one, and of all in order.
-use Rattle.std.proofs.Common.{◌≡◌, ℕ, ◌+◌, ◌<◌, ◌≤◌, ◌⊎◌, List, length, Some, None, Option, sym, refl, ap, ◌∙◌, subst, inl, inr, arith}
+use Rattle.std.proofs.Common.{◌≡◌, ℕ, ◌+◌, ◌<◌, ◌≤◌, ◌⊎◌, List, length, Some, None, Ok, Option, sym, refl, ap, ◌∙◌, subst, inl, inr, arith}
 use Rattle.std.proofs.lemmas.Bool.{cases_lt}
-use Rattle.card.specs.Meaning.{Bytes, Name}
+use Rattle.card.specs.Meaning.{Meaning, Bytes, Name}
 use Rattle.journal.specs.Format.{Journal, LawfulJournal, full}
 use Rattle.journal.specs.Judged.{Judged, Parts}
 use Rattle.journal.specs.declared.verdict.Verdict.{Verdict}
@@ -17,6 +17,9 @@ use Rattle.set_files.specs.Files.{Holds, Present}
 use Rattle.survey.specs.Finds.{AllPresent, HotAt, NamesOurs, Asked, Reported, ForeignJournal}
 use Rattle.survey.specs.Seen.{Seen, none, spent, hot, SeenAs, FoundOf, found_at, Hot, Orphan}
 use Rattle.survey.specs.Linked.{found_of, link_of, LinkBy, LookOf, SuperLook, LookedAs, AllLooked, look_at}
+use Rattle.refusal.specs.declared.step.Step.{Step}
+use Rattle.set_files.specs.Looked.{Looked}
+use Rattle.set_files.proofs.Looks.{looked_same}
 use Rattle.set_files.proofs.Played.{some_same}
 
 -- a sound verdict is that of a journal
@@ -186,3 +189,9 @@ module _ (files : Holds) (file : ℕ → Name) where
 
   pub asked_present : (n : ℕ) → Asked files file n → Present (files (file 8))
   asked_present n a = not_none (files (file 8)) (λ gone. a.3.present (file 8) a.4 gone)
+
+-- what the looks at the journals told is of the files as they were before other looks
+pub all_before :
+    {C : Type 0} (m : Meaning C) (step : Step) (file : ℕ → Name) (n : ℕ) (c c₁ : C) (looks : List Look) → Looked m step file c (Ok tt) c₁ → AllLooked (m.holds c₁) file n looks →
+    AllLooked (m.holds c) file n looks
+all_before m step file n c c₁ looks p all = subst (λ (x : Holds). AllLooked x file n looks) (looked_same m step file c c₁ p) all

@@ -2,7 +2,7 @@ use Rattle.std.proofs.Common.{◌≡◌, ◌<◌, length, subst, arith}
 use Rattle.names.specs.Files.{how_many, file_of}
 use Rattle.set_files.specs.Files.{Holds}
 use Rattle.set_files.specs.Looked.{never, never₂}
-use Rattle.set_files.proofs.Looks.{looked_end, looked_then, looked_same, looked_refused, told_up}
+use Rattle.set_files.proofs.Looks.{looked_end, looked_then, looked_same, looked_up, told_up}
 use Rattle.recovery.specs.Measured.{HasPages, Unsized}
 use Rattle.recovery.proofs.InPages.{measured_more, all_measured, unsized_at}
 use Rattle.recovery.proofs.lengths.measure.Goals as goal
@@ -12,7 +12,7 @@ loop-d-init g c = (looked_end _ _ _ _, λ k lt. absurd (omega arith))
 
 pub returns-in_err-size-clause-looked : goal.returns-in_err-size-clause-looked
 returns-in_err-size-clause-looked g c =
-    looked_refused _ _ _ _ _ _ _ c.from_residual.ensures.1 (looked_then _ _ _ _ _ _ _ c.loop-d.invariant.0 c.in_err-size.ensures.looked)
+    looked_up _ _ _ _ _ _ _ _ c.from_residual.ensures.1 c.loop-d.invariant.0 c.in_err-size.ensures.looked
 
 pub returns-in_err-size-clause-told : goal.returns-in_err-size-clause-told
 returns-in_err-size-clause-told g c =

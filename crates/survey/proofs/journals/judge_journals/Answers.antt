@@ -2,7 +2,7 @@ use Rattle.std.proofs.Common.{◌≡◌, ℕ, ◌+◌, ◌<◌, length, subst, a
 use Rattle.names.specs.Files.{how_many, file_of}
 use Rattle.set_files.specs.Files.{Holds}
 use Rattle.set_files.specs.Looked.{never}
-use Rattle.set_files.proofs.Looks.{looked_end, looked_then, looked_same, looked_refused, told_up}
+use Rattle.set_files.proofs.Looks.{looked_end, looked_then, looked_same, looked_up, told_up}
 use Rattle.survey.specs.Finds.{DamagedAt}
 use Rattle.survey.specs.Linked.{LookedAs}
 use Rattle.survey.specs.Seen.{Seen, SeenAs}
@@ -13,7 +13,7 @@ pub loop-d-init : goal.loop-d-init
 loop-d-init g c = (looked_end _ _ _ _, λ k lt. absurd (omega arith))
 
 pub returns-in_err-look-clause-looked : goal.returns-in_err-look-clause-looked
-returns-in_err-look-clause-looked g c = looked_refused _ _ _ _ _ _ _ c.from_residual.ensures.1 (looked_then _ _ _ _ _ _ _ c.loop-d.invariant.0 c.in_err-look.ensures.looked)
+returns-in_err-look-clause-looked g c = looked_up _ _ _ _ _ _ _ _ c.from_residual.ensures.1 c.loop-d.invariant.0 c.in_err-look.ensures.looked
 
 pub returns-in_err-look-clause-told : goal.returns-in_err-look-clause-told
 returns-in_err-look-clause-told g c =

@@ -5,7 +5,7 @@ use Rattle.super_journal.proofs.Listed.{text_at, length_texts}
 use Rattle.names.specs.Files.{how_many, file_of}
 use Rattle.set_files.specs.Files.{Holds, Present}
 use Rattle.set_files.specs.Looked.{never, never₂}
-use Rattle.set_files.proofs.Looks.{looked_end, looked_then, looked_same, looked_refused, told_up}
+use Rattle.set_files.proofs.Looks.{looked_end, looked_then, looked_same, looked_up, told_up}
 use Rattle.survey.specs.Finds.{JournalName, Stray}
 use Rattle.survey.proofs.listing.check_names.Goals as goal
 
@@ -14,7 +14,7 @@ loop-name-init g c = (looked_end _ _ _ _, λ k lt. absurd (omega arith))
 
 pub returns-in_err-check_listed-clause-looked : goal.returns-in_err-check_listed-clause-looked
 returns-in_err-check_listed-clause-looked g c =
-    looked_refused _ _ _ _ _ _ _ c.from_residual.ensures.1 (looked_then _ _ _ _ _ _ _ c.loop-name.invariant.0 c.in_err-check_listed.ensures.looked)
+    looked_up _ _ _ _ _ _ _ _ c.from_residual.ensures.1 c.loop-name.invariant.0 c.in_err-check_listed.ensures.looked
 
 pub returns-in_err-check_listed-clause-told : goal.returns-in_err-check_listed-clause-told
 returns-in_err-check_listed-clause-told g c =
@@ -55,6 +55,3 @@ loop-name-preserved g c =
           (subst (λ (w : Name). JournalName file n w ⊎ (files w ≡ None)) name
           (subst (λ (x : Holds). JournalName file n here ⊎ (x here ≡ None)) same c.in_ok-check_listed.ensures.told)),
     )
-
-pub returns-clause-told : goal.returns-clause-told
-returns-clause-told g c = λ k lt. c.loop-name.invariant.1 k (omega (arith, length_texts c.args.list.now))

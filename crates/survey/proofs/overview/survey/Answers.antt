@@ -2,18 +2,17 @@ use Rattle.std.proofs.Common.{◌≡◌, ◌≤◌, List, Some, sym, ◌∙◌, 
 use Rattle.card.specs.Meaning.{Bytes, Name}
 use Rattle.names.specs.Files.{how_many, file_of}
 use Rattle.set_files.specs.Files.{Holds, Present}
-use Rattle.set_files.proofs.Looks.{looked_then, looked_same, looked_refused, told_up}
+use Rattle.set_files.proofs.Looks.{looked_then, looked_same, looked_up, told_up}
 use Rattle.survey.specs.Finds.{DamagedAt, FirstAbsent, Damage, Stranger, NoNames, Listed, Strays}
-use Rattle.survey.specs.Linked.{AllLooked}
 use Rattle.survey.specs.Seen.{Seen, SeenAs}
-use Rattle.survey.proofs.Surveyed.{all_seen, reported, names_ours, asked_by, foreign_by, none_asked, asked_present}
+use Rattle.survey.proofs.Surveyed.{all_seen, reported, names_ours, asked_by, foreign_by, none_asked, asked_present, all_before}
 use Rattle.survey.proofs.Searched.{some_linked, none_linked}
 use Rattle.survey.proofs.overview.survey.Goals as goal
 use Rattle.survey.proofs.overview.survey.Goals.{then-is_some+in_ok-check_super, else-is_some}
 
 pub returns-in_err-looks-clause-looked : goal.returns-in_err-looks-clause-looked
 returns-in_err-looks-clause-looked g c =
-    looked_refused _ _ _ _ _ _ _ c.from_residual-in_err-looks.ensures.1 (looked_then _ _ _ _ _ _ _ c.in_ok-all_present.ensures.looked c.in_err-looks.ensures.looked)
+    looked_up _ _ _ _ _ _ _ _ c.from_residual-in_err-looks.ensures.1 c.in_ok-all_present.ensures.looked c.in_err-looks.ensures.looked
 
 pub returns-in_err-looks-clause-told : goal.returns-in_err-looks-clause-told
 returns-in_err-looks-clause-told g c =
@@ -47,7 +46,7 @@ returns-in-Some-clause-told g c =
     let files = g.C.Card.meaning.holds c.args.card.now in
     let first = c.in_ok-all_present.ensures in
     let looks = c.in_ok-looks.looks in
-    let all = subst (λ (x : Holds). AllLooked x file n looks) (looked_same _ _ _ _ _ first.looked) c.in_ok-looks.ensures.told in
+    let all = all_before _ _ file n _ _ looks first.looked c.in_ok-looks.ensures.told in
     let here = c.in-Some.ensures in
     inl (c.in-Some.d, c.journal_of.ensures, foreign_by files file n looks all c.in-Some.d first.told here.0 here.1 here.2 few)
 
@@ -59,15 +58,15 @@ check_super-requires g c =
     let files = g.C.Card.meaning.holds c.args.card.now in
     let first = c.in_ok-all_present.ensures in
     let looks = c.in_ok-looks.looks in
-    let all = subst (λ (x : Holds). AllLooked x file n looks) (looked_same _ _ _ _ _ first.looked) c.in_ok-looks.ensures.told in
+    let all = all_before _ _ file n _ _ looks first.looked c.in_ok-looks.ensures.told in
     let here = some_linked _ _ _ (sym c.is_some.ensures ∙ c.if-is_some.true) c.first_linked-2.ensures in
     let same = looked_same _ _ _ _ _ (looked_then _ _ _ _ _ _ _ first.looked c.in_ok-looks.ensures.looked) in
     subst (λ (x : Holds). Present (x (file 8))) (sym same) (asked_present files file n (asked_by files file n looks all here.0 here.1.0 here.1.1))
 
 pub returns-in_err-check_super-clause-looked : goal.returns-in_err-check_super-clause-looked
 returns-in_err-check_super-clause-looked g c =
-    looked_refused _ _ _ _ _ _ _ c.from_residual-in_err-check_super.ensures.1
-    (looked_then _ _ _ _ _ _ _ c.in_ok-all_present.ensures.looked (looked_then _ _ _ _ _ _ _ c.in_ok-looks.ensures.looked c.in_err-check_super.ensures.looked))
+    looked_up _ _ _ _ _ _ _ _ c.from_residual-in_err-check_super.ensures.1 (looked_then _ _ _ _ _ _ _ c.in_ok-all_present.ensures.looked c.in_ok-looks.ensures.looked)
+    c.in_err-check_super.ensures.looked
 
 pub returns-in_err-check_super-clause-told : goal.returns-in_err-check_super-clause-told
 returns-in_err-check_super-clause-told g c =
@@ -77,7 +76,7 @@ returns-in_err-check_super-clause-told g c =
     let files = g.C.Card.meaning.holds c.args.card.now in
     let first = c.in_ok-all_present.ensures in
     let looks = c.in_ok-looks.looks in
-    let all = subst (λ (x : Holds). AllLooked x file n looks) (looked_same _ _ _ _ _ first.looked) c.in_ok-looks.ensures.told in
+    let all = all_before _ _ file n _ _ looks first.looked c.in_ok-looks.ensures.told in
     let here = some_linked _ _ _ (sym c.is_some.ensures ∙ c.if-is_some.true) c.first_linked-2.ensures in
     let same = looked_same _ _ _ _ _ (looked_then _ _ _ _ _ _ _ first.looked c.in_ok-looks.ensures.looked) in
     let seen = all_seen files file n looks all in
@@ -125,7 +124,7 @@ returns-clause-told g c =
     let files = g.C.Card.meaning.holds c.args.card.now in
     let first = c.in_ok-all_present.ensures in
     let looks = c.in_ok-looks.looks in
-    let all = subst (λ (x : Holds). AllLooked x file n looks) (looked_same _ _ _ _ _ first.looked) c.in_ok-looks.ensures.told in
+    let all = all_before _ _ file n _ _ looks first.looked c.in_ok-looks.ensures.told in
     let same = looked_same _ _ _ _ _ (looked_then _ _ _ _ _ _ _ first.looked c.in_ok-looks.ensures.looked) in
     record {
       present = first.told;

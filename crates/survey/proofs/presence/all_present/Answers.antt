@@ -1,7 +1,7 @@
 use Rattle.std.proofs.Common.{◌≡◌, ℕ, None, sym, refl, ◌∙◌, subst, inr, arith, below_more}
 use Rattle.names.specs.Files.{file_of}
 use Rattle.set_files.specs.Files.{Holds, Present}
-use Rattle.set_files.proofs.Looks.{looked_end, looked_then, looked_same, looked_one, looked_refused, told_some, told_absent, passed_up, absent_refused}
+use Rattle.set_files.proofs.Looks.{looked_end, looked_then, looked_same, looked_one, looked_up, told_some, told_absent, passed_up, absent_refused}
 use Rattle.survey.proofs.presence.all_present.Goals as goal
 
 pub loop-d-init : goal.loop-d-init
@@ -9,12 +9,12 @@ loop-d-init g c = (looked_end _ _ _ _, λ k lt. absurd (omega arith))
 
 pub returns-in_err-length_of-clause-looked : goal.returns-in_err-length_of-clause-looked
 returns-in_err-length_of-clause-looked g c =
-    looked_refused _ _ _ _ _ _ _ c.from_residual.ensures.1 (looked_then _ _ _ _ _ _ _ c.loop-d.invariant.0 (looked_one _ _ _ _ _ _ _ _ _ _ refl tt (inr refl) c.in_err-length_of.ensures.went))
+    looked_up _ _ _ _ _ _ _ _ c.from_residual.ensures.1 c.loop-d.invariant.0 (looked_one _ _ _ _ _ _ _ _ _ _ refl tt (inr refl) c.in_err-length_of.ensures.went)
 
 pub returns-in_err-ok_or-clause-looked : goal.returns-in_err-ok_or-clause-looked
 returns-in_err-ok_or-clause-looked g c =
-    looked_refused _ _ _ _ _ _ _ (absent_refused _ _ _ _ c.in_err-ok_or.ensures.value c.from_residual-in_err-ok_or.ensures.1).1
-    (looked_then _ _ _ _ _ _ _ c.loop-d.invariant.0 (looked_one _ _ _ _ _ _ _ _ _ _ refl tt (inr refl) c.in_ok-length_of.ensures.went))
+    looked_up _ _ _ _ _ _ _ _ (absent_refused _ _ _ _ c.in_err-ok_or.ensures.value c.from_residual-in_err-ok_or.ensures.1).1 c.loop-d.invariant.0
+    (looked_one _ _ _ _ _ _ _ _ _ _ refl tt (inr refl) c.in_ok-length_of.ensures.went)
 
 pub returns-in_err-ok_or-clause-told : goal.returns-in_err-ok_or-clause-told
 returns-in_err-ok_or-clause-told g c =
