@@ -6,4 +6,6 @@ mod memory_edges;
 #[cfg(test)]
 mod name_edges;
 #[cfg(test)]
+mod numbers;
+#[cfg(test)]
 mod page_edges;

@@ -27,6 +27,7 @@ fn tests_go_in_order(rt: HostRuntime) {
 #[test]
 fn four_databases_share_32_pages(rt: HostRuntime) {
     let mut m = Memory::new(9, [0; 4]);
+    // pages and databases go by number in a call
     for p in 1..=8 {
         for d in 0..4 {
             assert_eq!(rt; m.write(d, p, &PAGE), Ok(()));
@@ -41,6 +42,7 @@ fn four_databases_share_32_pages(rt: HostRuntime) {
 #[test]
 fn eight_savepoints_stand(rt: HostRuntime) {
     let mut m = Memory::new(1, [0; 4]);
+    // a savepoint's number is what the call tells
     for k in 1..=8 {
         assert_eq!(rt; m.push(), Ok(k));
     }
@@ -72,6 +74,7 @@ fn a_page_is_saved_once(rt: HostRuntime) {
 #[test]
 fn savepoints_share_32_saved_pages(rt: HostRuntime) {
     let mut m = Memory::new(1, [0; 4]);
+    // a savepoint's number is what the call tells, and a page goes by number in a call
     for k in 1..=4 {
         assert_eq!(rt; m.push(), Ok(k));
         for p in 1..=8 {

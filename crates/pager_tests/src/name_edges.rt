@@ -1,31 +1,32 @@
 // Lists of names at their limits.
-use names::checked;
+use names::ListRefusal::{Byte, Count, Equal, Length};
+use names::{ListRefusal, checked};
 
-/// The number by which the list is refused.
-fn answer(list: &[&[u8]]) -> Option<u8> {
-    checked(list).err().map(|refusal| refusal.number())
+/// The refusal of the list, none if it is checked.
+fn refusal(list: &[&[u8]]) -> Option<ListRefusal> {
+    checked(list).err()
 }
 
 #[test]
 fn a_list_has_1_to_4_names(rt: HostRuntime) {
-    assert_eq!(rt; answer(&[]), Some(1));
-    assert_eq!(rt; answer(&[b"a", b"b", b"c", b"d"]), None);
-    assert_eq!(rt; answer(&[b"a", b"b", b"c", b"d", b"e"]), Some(1));
+    assert_eq!(rt; refusal(&[]), Some(Count));
+    assert_eq!(rt; refusal(&[b"a", b"b", b"c", b"d"]), None);
+    assert_eq!(rt; refusal(&[b"a", b"b", b"c", b"d", b"e"]), Some(Count));
 }
 
 #[test]
 fn names_have_1_to_24_printable_bytes(rt: HostRuntime) {
-    assert_eq!(rt; answer(&[b"aaaaaaaaaaaaaaaaaaaaaaaa"]), None);
-    assert_eq!(rt; answer(&[b"aaaaaaaaaaaaaaaaaaaaaaaaa"]), Some(2));
-    assert_eq!(rt; answer(&[b"a\n", b""]), Some(2));
-    assert_eq!(rt; answer(&[b"a", b"a~ "]), None);
-    assert_eq!(rt; answer(&[b"a", b"a\n"]), Some(3));
+    assert_eq!(rt; refusal(&[b"aaaaaaaaaaaaaaaaaaaaaaaa"]), None);
+    assert_eq!(rt; refusal(&[b"aaaaaaaaaaaaaaaaaaaaaaaaa"]), Some(Length(0)));
+    assert_eq!(rt; refusal(&[b"a\n", b""]), Some(Length(1)));
+    assert_eq!(rt; refusal(&[b"a", b"a~ "]), None);
+    assert_eq!(rt; refusal(&[b"a", b"a\n"]), Some(Byte(1)));
 }
 
 #[test]
 fn all_file_names_differ(rt: HostRuntime) {
-    assert_eq!(rt; answer(&[b"a", b"a"]), Some(4));
-    assert_eq!(rt; answer(&[b"a", b"a-journal"]), Some(4));
-    assert_eq!(rt; answer(&[b"a", b"a-mj"]), Some(4));
-    assert_eq!(rt; answer(&[b"a", b"b-mj"]), None);
+    assert_eq!(rt; refusal(&[b"a", b"a"]), Some(Equal));
+    assert_eq!(rt; refusal(&[b"a", b"a-journal"]), Some(Equal));
+    assert_eq!(rt; refusal(&[b"a", b"a-mj"]), Some(Equal));
+    assert_eq!(rt; refusal(&[b"a", b"b-mj"]), None);
 }

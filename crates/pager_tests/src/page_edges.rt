@@ -1,39 +1,42 @@
 // Pages at the edges of a database, row by row.
-use pager::Memory;
+use pager::{Memory, Refusal};
 
-/// Writes of one page: the database's size in pages, the page, and the refusal's number, if any.
-const EDGES: [(u32, u32, Option<u8>); 18] = [
-    (0, 0, Some(9)),
-    (0, 1, None),
-    (0, 2, Some(9)),
-    (1, 0, Some(9)),
-    (1, 1, None),
-    (1, 2, None),
-    (1, 3, Some(9)),
-    (64, 64, None),
-    (64, 65, None),
-    (64, 66, Some(9)),
-    (4094, 4095, None),
-    (4094, 4096, Some(9)),
-    (4095, 4096, None),
-    (4095, 4097, Some(9)),
-    (4096, 1, None),
-    (4096, 4096, None),
-    (4096, 4097, Some(9)),
-    (4096, 4294967295, Some(9)),
+/// Writes of one page: the database's size in pages, the page, and the answer.
+const EDGES: [(u32, u32, Result<(), Refusal>); 18] = [
+    (0, 0, Err(Refusal::Page)),
+    (0, 1, Ok(())),
+    (0, 2, Err(Refusal::Page)),
+    (1, 0, Err(Refusal::Page)),
+    (1, 1, Ok(())),
+    (1, 2, Ok(())),
+    (1, 3, Err(Refusal::Page)),
+    (64, 64, Ok(())),
+    (64, 65, Ok(())),
+    (64, 66, Err(Refusal::Page)),
+    (4094, 4095, Ok(())),
+    (4094, 4096, Err(Refusal::Page)),
+    (4095, 4096, Ok(())),
+    (4095, 4097, Err(Refusal::Page)),
+    (4096, 1, Ok(())),
+    (4096, 4096, Ok(())),
+    (4096, 4097, Err(Refusal::Page)),
+    (4096, 4294967295, Err(Refusal::Page)),
 ];
 
-/// The number by which the write is refused.
-fn answer(memory: &mut Memory, page: u32) -> Option<u8> {
-    let refusal = memory.write(0, page, &[7; 512]).err();
-    refusal.map(|refusal| refusal.number())
+/// What a write of one page is answered.
+fn answer(memory: &mut Memory, page: u32) -> Result<(), Refusal> {
+    memory.write(0, page, &[7; 512])
 }
 
 #[test]
 fn each_edge_is_answered_as_the_table_says(rt: HostRuntime) {
-    for (size, page, number) in EDGES {
+    for (size, page, expected) in EDGES {
         let mut memory = Memory::new(1, [size, 0, 0, 0]);
-        assert_eq!(rt; answer(&mut memory, page), number, "page {page} of {size}");
+        assert_eq!(rt;
+            answer(&mut memory, page),
+            expected,
+            "page {page} of {size}"
+        );
     }
 }
 
@@ -41,7 +44,7 @@ fn each_edge_is_answered_as_the_table_says(rt: HostRuntime) {
 fn each_written_page_is_the_one_changed_page(rt: HostRuntime) {
     for (size, page, _) in EDGES {
         let mut memory = Memory::new(1, [size, 0, 0, 0]);
-        let changed = answer(&mut memory, page).is_none().then_some(page);
-        assert_eq!(rt; memory.next_changed(0, 0).unwrap_or(None), changed);
+        let changed = answer(&mut memory, page).ok().map(|()| page);
+        assert_eq!(rt; memory.next_changed(0, 0), Ok(changed));
     }
 }

@@ -31,34 +31,73 @@ impl Version {
     }
 }
 
-/// The bytes of a page; two pages differ in every byte, and so do two versions of one that changes.
-pub fn page(database: u8, number: u8, version: Version) -> [u8; PAGE] {
-    let changed = version == Version::New && number != 1;
-    let mark = database.wrapping_mul(16) ^ number.wrapping_mul(2) ^ u8::from(changed);
-    array::from_fn(|i| mark ^ (i & 0xff) as u8)
+/// A page of a database, as a version has it; pages go by number from 1.
+#[derive(Clone, Copy, Debug)]
+pub struct Page {
+    database: u8,
+    number: u8,
+    version: Version,
+}
+
+impl Page {
+    /// The page of that number.
+    pub fn new(database: u8, number: u8, version: Version) -> Page {
+        Page {
+            database,
+            number,
+            version,
+        }
+    }
+
+    /// Its bytes; two pages differ in every byte, and so do two versions of one that changes.
+    pub fn bytes(self) -> [u8; PAGE] {
+        let Page {
+            database,
+            number,
+            version,
+        } = self;
+        let changed = version == Version::New && number != 1;
+        let mark = database.wrapping_mul(16) ^ number.wrapping_mul(2) ^ u8::from(changed);
+        // the lowest byte of a place, cut off on purpose
+        array::from_fn(|place| mark ^ (place & 0xff) as u8)
+    }
+
+    /// Checks that a set shows the page.
+    pub fn check<C: Card>(self, rt: &impl Abort, set: &mut Set<C>) {
+        let mut bytes = [0u8; PAGE];
+        let answer = set.read(
+            usize::from(self.database),
+            u32::from(self.number),
+            &mut bytes,
+        );
+        assert_eq!(rt; answer, Ok(()), "{self:?}");
+        assert!(rt; bytes == self.bytes(), "{self:?}");
+    }
 }
 
 /// The names of the first databases: a, b, c, d.
 pub fn names(count: u8) -> Result<Names, ListRefusal> {
     let all: [&[u8]; 4] = [b"a", b"b", b"c", b"d"];
-    checked(&all[0..(count as usize).min(4)])
+    checked(&all[0..usize::from(count).min(4)])
 }
 
 /// Makes the file of a database, with its old pages.
 fn make_database<C: Card>(card: &mut C, database: u8) -> Result<(), CardFault> {
     let name = [b'a'.saturating_add(database)];
     card.create(&name)?;
-    card.write(&name, 0, &page(database, 1, Version::Old))?;
-    card.write(&name, PAGE as u32, &page(database, 2, Version::Old))?;
+    card.write(&name, 0, &Page::new(database, 1, Version::Old).bytes())?;
+    // as, since no From narrows a number, and a constant's is seen to fit
+    card.write(
+        &name,
+        PAGE as u32,
+        &Page::new(database, 2, Version::Old).bytes(),
+    )?;
     card.sync(&name)
 }
 
 /// Makes the files of the first databases, with their old pages.
 pub fn make_databases<C: Card>(card: &mut C, count: u8) -> Result<(), CardFault> {
-    for database in 0..count {
-        make_database(card, database)?;
-    }
-    Ok(())
+    (0..count).try_for_each(|database| make_database(card, database))
 }
 
 /// A direct card with the files of the first databases.
@@ -74,6 +113,7 @@ pub fn layer<'a>(
     card: DirectCard<'a>,
     calls: &[u32],
 ) -> TroubleLayer<DirectCard<'a>> {
+    // no ok: the check does not cover a call that takes an answer with a card in its error
     match TroubleLayer::new(card, calls, 4) {
         Ok(layer) => layer,
         Err(_) => panic!(rt; "over eight numbers"),
@@ -83,16 +123,18 @@ pub fn layer<'a>(
 /// Commits the transaction that takes each database from its old pages to its new ones.
 pub fn commit_new<C: Card>(set: &mut Set<C>, count: u8) -> Result<usize, Refusal> {
     let t = set.begin(7);
+    // databases go by number in a call
     for database in 0..count {
-        for number in 2..4u8 {
-            let bytes = page(database, number, Version::New);
-            let _ = set.write(&t, database as usize, number as u32, &bytes);
+        for number in [2, 3] {
+            let page = Page::new(database, number, Version::New);
+            let _ = set.write(&t, usize::from(database), u32::from(number), &page.bytes());
         }
     }
     set.commit(t)
 }
 
 /// The fault that stopped a commit, none if it came through. No other refusal stops it.
+// By cases: of the refusals one is an answer here, and every other fails the test.
 pub fn stopped_by(answer: Result<usize, Refusal>) -> Result<Option<SetFault>, Fail> {
     match answer {
         Ok(_) => Ok(None),
@@ -101,40 +143,22 @@ pub fn stopped_by(answer: Result<usize, Refusal>) -> Result<Option<SetFault>, Fa
     }
 }
 
-/// Checks that a page of a database is that of a version.
-pub fn check_page<C: Card>(
-    rt: &impl Abort,
-    set: &mut Set<C>,
-    database: u8,
-    number: u8,
-    version: Version,
-) {
-    let mut bytes = [0u8; PAGE];
-    assert_eq!(rt;
-        set.read(database as usize, number as u32, &mut bytes),
-        Ok(()),
-        "page {number} of database {database}, to show {version:?}"
-    );
-    assert!(rt;
-        bytes == page(database, number, version),
-        "page {number} of database {database}, to show {version:?}"
-    );
-}
-
 /// Checks that a database has the size and the pages of a version.
 fn check_database<C: Card>(rt: &impl Abort, set: &mut Set<C>, database: u8, version: Version) {
     assert_eq!(rt;
-        set.size(database as usize),
-        Ok(version.size() as u32),
+        set.size(usize::from(database)),
+        Ok(u32::from(version.size())),
         "database {database}, to show {version:?}"
     );
+    // pages go by number in a call
     for number in 1..=version.size() {
-        check_page(rt, set, database, number, version);
+        Page::new(database, number, version).check(rt, set);
     }
 }
 
 /// Checks that all databases show one version.
 pub fn check_all<C: Card>(rt: &impl Abort, set: &mut Set<C>, count: u8, version: Version) {
+    // databases go by number in a call
     for database in 0..count {
         check_database(rt, set, database, version);
     }

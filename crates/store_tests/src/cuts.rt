@@ -5,7 +5,8 @@
 use crate::contents::{IMAGE, Version, check_all, commit_new, make_databases, names, stopped_by};
 use crate::trials::calls_of;
 use card::Card;
-use delayed_card::DelayedCard;
+use delayed_card::{DelayedCard, Untold};
+use halves::Kept;
 use refusal::{Refusal, Step};
 use std::process::Abort;
 use std::test::Fail;
@@ -14,16 +15,31 @@ use store::Set;
 /// A power failure: at which call from now, and what the card keeps.
 #[derive(Clone, Copy)]
 pub struct Cut {
-    pub call: u32,
-    // a number, as the card takes it
-    pub kept: u8,
+    call: u32,
+    kept: Kept,
 }
+
+impl Cut {
+    /// The failure at that call, where the card keeps that.
+    pub fn new(call: u32, kept: Kept) -> Cut {
+        Cut { call, kept }
+    }
+
+    /// Tells a card to lose power so.
+    // What is kept goes to the card by its number, by a rule of the project (docs/CARD.md).
+    fn tell(self, card: &mut DelayedCard<'_>) -> Result<(), Untold> {
+        card.lose_power_at(self.call, self.kept as u8)
+    }
+}
+
+/// What the card can keep of its files.
+const CHOICES: [Kept; 3] = [Kept::Synced, Kept::Current, Kept::Mixed];
 
 /// A delayed card with the files of the first databases, that is to lose power.
 pub fn delayed(image: &mut [u8], count: u8, cut: Cut) -> Result<DelayedCard<'_>, Fail> {
     let mut card = DelayedCard::new(image, 3);
     make_databases(&mut card, count)?;
-    card.lose_power_at(cut.call, cut.kept)?;
+    cut.tell(&mut card)?;
     Ok(card)
 }
 
@@ -31,20 +47,20 @@ pub fn delayed(image: &mut [u8], count: u8, cut: Cut) -> Result<DelayedCard<'_>,
 pub fn quiet_calls(count: u8) -> Result<u32, Fail> {
     calls_of(|call| {
         let mut image = [0u8; 2 * IMAGE];
-        let card = delayed(&mut image, count, Cut { call, kept: 0 })?;
+        let card = delayed(&mut image, count, Cut::new(call, Kept::Synced))?;
         Ok(Set::new(names(count)?, card).recover().is_ok())
     })
 }
 
 /// What all databases must show after a commit with that answer. The deletion that makes the commit
 /// count is done by a card that keeps what it held when power failed, or a mix.
-fn shown_after(answer: Result<usize, Refusal>, kept: u8) -> Result<Version, Fail> {
+fn shown_after(answer: Result<usize, Refusal>, kept: Kept) -> Result<Version, Fail> {
     let Some(fault) = stopped_by(answer)? else {
         return Ok(Version::New);
     };
     match fault.step {
         Some(Step::C1 | Step::C2 | Step::C3) => Ok(Version::Old),
-        Some(Step::C4) if kept == 0 => Ok(Version::Old),
+        Some(Step::C4) if kept == Kept::Synced => Ok(Version::Old),
         Some(Step::C4) => Ok(Version::New),
         _ => Err(Fail::new("a commit tells one of its steps")),
     }
@@ -73,10 +89,10 @@ fn check_commit(rt: &impl Abort, count: u8, cut: Cut) -> Result<bool, Fail> {
 /// Cuts a commit at each of its calls, whatever the card keeps, and checks how many there are.
 fn check_commits(rt: &impl Abort, count: u8, calls: u32) -> Result<(), Fail> {
     let quiet = quiet_calls(count)?;
-    for kept in 0..3 {
+    for kept in CHOICES {
         let told = calls_of(|call| {
             let call = quiet.saturating_add(call);
-            check_commit(rt, count, Cut { call, kept })
+            check_commit(rt, count, Cut::new(call, kept))
         })?;
         assert_eq!(rt; told, calls);
     }
@@ -107,11 +123,11 @@ fn check_recovery(rt: &impl Abort, count: u8, first: Cut, second: Cut) -> Result
     let _ = set.recover()?;
     let answer = commit_new(&mut set, count);
     let mut card = set.into_card();
-    card.lose_power_at(second.call, second.kept)?;
+    second.tell(&mut card)?;
     let mut set = Set::new(names(count)?, card);
     let whole = set.recover().is_ok();
     let mut card = set.into_card();
-    card.lose_power_at(u32::MAX, 0)?;
+    Cut::new(u32::MAX, Kept::Synced).tell(&mut card)?;
     let mut set = Set::new(names(count)?, card);
     let _ = set.recover()?;
     check_all(rt, &mut set, count, shown_after(answer, first.kept)?);
@@ -121,26 +137,32 @@ fn check_recovery(rt: &impl Abort, count: u8, first: Cut, second: Cut) -> Result
 /// Cuts the recovery after a cut commit at each of its calls, whatever the card keeps, and tells how
 /// many recoveries were cut.
 fn recovery_cuts(rt: &impl Abort, count: u8, first: Cut) -> Result<u32, Fail> {
-    let mut cuts = 0u32;
-    for kept in 0..3 {
-        let calls = calls_of(|call| check_recovery(rt, count, first, Cut { call, kept }))?;
-        cuts = cuts.saturating_add(calls);
-    }
-    Ok(cuts)
+    CHOICES
+        .into_iter()
+        .try_fold(0u32, |cuts, kept| -> Result<u32, Fail> {
+            let calls = calls_of(|call| check_recovery(rt, count, first, Cut::new(call, kept)))?;
+            Ok(cuts.saturating_add(calls))
+        })
 }
 
-/// Cuts a commit at each of its calls, and the recovery after each cut at each of its calls; what the
-/// card keeps at either is any of the three. Tells how many recoveries were cut.
+/// Cuts a commit at one of its calls, and the recovery after it at each of its calls; what the card
+/// keeps at either is any of the three. Tells how many recoveries were cut.
+fn cut_recovery(rt: &impl Abort, count: u8, call: u32) -> Result<u32, Fail> {
+    CHOICES
+        .into_iter()
+        .try_fold(0u32, |cuts, kept| -> Result<u32, Fail> {
+            Ok(cuts.saturating_add(recovery_cuts(rt, count, Cut::new(call, kept))?))
+        })
+}
+
+/// Cuts a commit at each of its calls, and the recovery after each cut at each of its calls. Tells how
+/// many recoveries were cut.
 fn cut_recoveries(rt: &impl Abort, count: u8, calls: u32) -> Result<u32, Fail> {
     let quiet = quiet_calls(count)?;
-    let mut cuts = 0u32;
-    for call in 1..=calls {
+    (1..=calls).try_fold(0u32, |cuts, call| -> Result<u32, Fail> {
         let call = quiet.saturating_add(call);
-        for kept in 0..3 {
-            cuts = cuts.saturating_add(recovery_cuts(rt, count, Cut { call, kept })?);
-        }
-    }
-    Ok(cuts)
+        Ok(cuts.saturating_add(cut_recovery(rt, count, call)?))
+    })
 }
 
 #[test]

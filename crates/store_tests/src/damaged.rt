@@ -1,5 +1,5 @@
 // Journals of every kind beside the databases: damaged, spent and hot.
-use crate::contents::{Version, page};
+use crate::contents::{Page, Version};
 use crate::scenes::{Beside, check_found, check_refused};
 use journal_writer::{put_count, put_header, put_name, put_record};
 use recovery::Found;
@@ -18,8 +18,10 @@ pub const LINKED: usize = 1576;
 pub fn journal(database: u8, name: &[u8]) -> Result<[u8; LINKED], Fail> {
     let mut bytes = [0u8; LINKED];
     put_header(&mut bytes, 7, 2)?;
-    put_record(&mut bytes, 0, 7, 1, &page(database, 1, Version::Old))?;
-    put_record(&mut bytes, 1, 7, 2, &page(database, 2, Version::New))?;
+    let first = Page::new(database, 1, Version::Old);
+    put_record(&mut bytes, 0, 7, 1, &first.bytes())?;
+    let second = Page::new(database, 2, Version::New);
+    put_record(&mut bytes, 1, 7, 2, &second.bytes())?;
     put_name(&mut bytes, 2, name)?;
     put_count(&mut bytes, 2)?;
     Ok(bytes)

@@ -12,6 +12,7 @@ use store::Set;
 const CALLS: u32 = 100;
 
 /// Whether a commit was done with no journal left, and whether the recovery after it was good.
+// Two flags, since each of the four pairs can come.
 #[derive(Clone, Copy)]
 struct Outcome {
     committed: bool,
@@ -66,27 +67,24 @@ fn each_fault_of_a_commit(rt: HostRuntime) -> Result<(), Fail> {
 
 /// Refuses each call after a refused one in turn, and tells how many recoveries were refused.
 fn refused_after(rt: &impl Abort, count: u8, first: u32) -> Result<u32, Fail> {
-    let mut refused = 0u32;
-    let mut last = false;
-    for after in 1..=CALLS {
+    let recovered = |after: u32| -> Result<bool, Fail> {
         let second = first.saturating_add(after);
-        last = check_faults(rt, count, &[first, second])?.recovered;
-        refused = refused.saturating_add(u32::from(!last));
-    }
-    assert!(rt; last);
-    Ok(refused)
+        Ok(check_faults(rt, count, &[first, second])?.recovered)
+    };
+    assert!(rt; recovered(CALLS)?);
+    (1..CALLS).try_fold(0u32, |refused, after| -> Result<u32, Fail> {
+        Ok(refused.saturating_add(u32::from(!recovered(after)?)))
+    })
 }
 
 /// Refuses each of so many calls of a commit, and each call after it, and tells how many recoveries
 /// were refused.
 fn refused_recoveries(rt: &impl Abort, count: u8, calls: u32) -> Result<u32, Fail> {
     let quiet = quiet_calls(count)?;
-    let mut refused = 0u32;
-    for call in 1..=calls {
+    (1..=calls).try_fold(0u32, |refused, call| -> Result<u32, Fail> {
         let first = quiet.saturating_add(call);
-        refused = refused.saturating_add(refused_after(rt, count, first)?);
-    }
-    Ok(refused)
+        Ok(refused.saturating_add(refused_after(rt, count, first)?))
+    })
 }
 
 #[test]

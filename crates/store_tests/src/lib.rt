@@ -15,6 +15,8 @@ mod faults;
 #[cfg(test)]
 mod foreign;
 #[cfg(test)]
+mod numbers;
+#[cfg(test)]
 mod scenes;
 #[cfg(test)]
 mod trials;

@@ -1,5 +1,5 @@
 // Two databases with files beside them, and what a recovery makes of that.
-use crate::contents::{IMAGE, Version, check_all, check_page, direct, names};
+use crate::contents::{IMAGE, Page, Version, check_all, direct, names};
 use card::{Card, CardFault};
 use direct_card::DirectCard;
 use recovery::Found;
@@ -70,14 +70,15 @@ pub fn check_found(rt: &impl Abort, files: &[Beside<'_>], found: Found) -> Resul
     assert_eq!(rt; recovery.sizes, [2, 2, 1, 1]);
     check_all(rt, &mut set, 1, Version::Old);
     assert_eq!(rt; set.size(1), Ok(2));
-    check_page(rt, &mut set, 1, 1, Version::Old);
+    Page::new(1, 1, Version::Old).check(rt, &mut set);
     let second = match found {
         Found::Hot { .. } => Version::New,
         _ => Version::Old,
     };
-    check_page(rt, &mut set, 1, 2, second);
+    Page::new(1, 2, second).check(rt, &mut set);
     let mut card = set.into_card();
-    for name in [&b"a-journal"[..], b"b-journal", b"a-mj"] {
+    let gone: [&[u8]; 3] = [b"a-journal", b"b-journal", b"a-mj"];
+    for name in gone {
         check_absent(rt, &mut card, name);
     }
     Ok(())

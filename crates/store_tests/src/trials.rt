@@ -9,6 +9,7 @@ const CALLS: u32 = 200;
 pub fn calls_of<F: FnMut(u32) -> Result<bool, Fail>>(mut trial: F) -> Result<u32, Fail>
     requires { F.IsAlwaysCallable trial }
 {
+    // a loop, since find takes no trial that can fail
     for calls in 0..CALLS {
         if trial(calls + 1)? {
             return Ok(calls);
