@@ -16,9 +16,6 @@ const NAME_LENGTH: usize = 32;
 /// Where the file's length stands.
 pub const FILE_LENGTH: usize = 33;
 
-// `head` is asked by each function below. Tried as a ghost field of a struct: each method has to take the bytes out of it
-// again, its clauses say `self.exit.0.now` for `slot.new`, and for reading there has to be a second struct.
-
 /// Whether the slot is free for a file.
 #[tactic(auto, unfolding(crate::specs::Layout::free))]
 pub fn is_free(slot: &[u8]) -> bool
@@ -37,6 +34,8 @@ pub fn is_named(slot: &[u8], name: &[u8]) -> bool
         && usize::from(slot[NAME_LENGTH]) == n
         && slot[0..n] == name[..]
 }
+
+// `head` is asked of callers, and no struct keeps it (tried): each method takes the bytes out first, and says `self.exit.0.now`.
 
 /// The bytes of the file in the slot. For the crates of this repository: it wants a slot with its head.
 pub fn content(slot: &[u8]) -> &[u8]

@@ -15,8 +15,7 @@ use std::ops::Range;
 /// The slots of an image.
 pub const SLOTS: usize = 16;
 
-// `k < 16` is asked where a slot is taken by its number: `0..SLOTS` gives plain numbers to the loops and searches, of which
-// each would have to make the type first.
+// `k < 16` is asked of callers: loops and searches over `0..SLOTS` give plain numbers, which a type would be made from each time.
 
 /// The bounds of a slot of the image.
 fn bounds(image: &[u8], k: usize) -> Range<usize>
