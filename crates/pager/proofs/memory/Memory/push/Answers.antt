@@ -1,23 +1,15 @@
 use Rattle.std.proofs.Common.{◌≡◌, ℕ, ◌+◌, suc, false, List, [], ◌∷◌, length, sym, refl, ap, ◌∙◌, subst, add-one, arith, length-append}
 use mathlib.Core.Logic.{∥∥₁_map}
-use Rattle.std.proofs.lemmas.Bool.{cond-true, cond-false, eq-eqb, both_ways}
+use Rattle.std.proofs.lemmas.Bool.{cond-false, eq-eqb, both_ways}
 use Rattle.pager.specs.Saved.{has_from}
 use Rattle.pager.specs.View.{Fields, fields, stack, held_now}
-use Rattle.pager.proofs.Keeps.{none_above, some_none}
+use Rattle.pager.proofs.Keeps.{none_above}
 use Rattle.pager.proofs.Stack.{back_law}
 use Rattle.pager.proofs.Stacks.{with_sizes, stack_pushed, sound_pushed}
 use Rattle.pager.proofs.memory.Memory.push.Goals as goal
 
-pub returns-then-is_full : goal.returns-then-is_full
-returns-then-is_full c = record {
-  refusal = sym (cond-true _ _ _ (sym c.is_full.ensures ∙ c.if-is_full.true));
-  kept = λ _. refl;
-  count = refl;
-  number = tt;
-  done = λ e. absurd (some_none _ e);
-  stores = (refl, refl);
-  back = back_law;
-}
+pub returns-then-is_full-clause-back : goal.returns-then-is_full-clause-back
+returns-then-is_full-clause-back c = back_law
 
 pub invariant_of-self : goal.invariant_of-self
 invariant_of-self c =

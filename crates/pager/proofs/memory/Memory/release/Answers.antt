@@ -1,24 +1,16 @@
 use Rattle.std.proofs.Common.{◌≡◌, ℕ, suc, ◌-◌, leb, List, [], length, take, sym, refl, ap, ◌∙◌, arith, length-take-le}
 use mathlib.Core.Logic.{∥∥₁_map}
-use Rattle.std.proofs.lemmas.Bool.{cond-true, cond-false, and_parts, leb-true}
+use Rattle.std.proofs.lemmas.Bool.{cond-true, and_parts, leb-true}
 use Rattle.pager.specs.declared.saved_page.SavedPage.{SavedPage}
 use Rattle.pager.specs.Saved.{has_from}
 use Rattle.pager.specs.View.{Fields, fields, stack, held_now}
-use Rattle.pager.proofs.Keeps.{none_above, some_none}
+use Rattle.pager.proofs.Keeps.{none_above}
 use Rattle.pager.proofs.Stack.{release_law}
 use Rattle.pager.proofs.Stacks.{passed_fields, stack_released, sound_released}
 use Rattle.pager.proofs.memory.Memory.release.Goals as goal
 
-pub returns-then-not-stands : goal.returns-then-not-stands
-returns-then-not-stands c = record {
-  refusal = sym (cond-false _ _ _ (sym c.stands.ensures ∙ c.if-not-stands.true));
-  kept = λ _. refl;
-  count = refl;
-  done = λ e. absurd (some_none _ e);
-  saved = λ e. absurd (some_none _ e);
-  changed = refl;
-  law = release_law;
-}
+pub returns-then-not-stands-clause-law : goal.returns-then-not-stands-clause-law
+returns-then-not-stands-clause-law c = release_law
 
 pub invariant_of-self : goal.invariant_of-self
 invariant_of-self c =
