@@ -3,6 +3,7 @@
 use anyhow::Context;
 use card::{Card, CardFault};
 use delayed_card::DelayedCard;
+use halves::Kept;
 use journal::PAGE;
 use names::{Names, checked};
 use refusal::Refusal;
@@ -21,17 +22,15 @@ pub const NONCE: u32 = 7;
 /// The names of the three databases.
 pub const NAMES: [&[u8]; 3] = [b"probe", b"notes", b"trace"];
 
-/// The names of their files, by number.
-pub const FILES: [&str; 9] = [
-    "probe",
-    "notes",
-    "trace",
-    "",
-    "probe-journal",
-    "notes-journal",
-    "trace-journal",
-    "",
-    "probe-mj",
+/// The names of their files, each after its number.
+pub const FILES: [(usize, &str); 7] = [
+    (0, "probe"),
+    (1, "notes"),
+    (2, "trace"),
+    (4, "probe-journal"),
+    (5, "notes-journal"),
+    (6, "trace-journal"),
+    (8, "probe-mj"),
 ];
 
 /// A page as it was, and as the transaction writes it.
@@ -40,14 +39,18 @@ const OLD: [u8; PAGE] = [b'o'; PAGE];
 const NEW: [u8; PAGE] = [b'N'; PAGE];
 
 /// Power is to fail at a call from now, with what the card then keeps.
-// What is kept goes by number, since the card and the words of a user take it so.
 #[derive(Clone, Copy)]
 pub struct Cut {
-    pub call: u32,
-    pub kept: u8,
+    call: u32,
+    kept: Kept,
 }
 
 impl Cut {
+    /// The failure at that call, where the card keeps that.
+    pub fn new(call: u32, kept: Kept) -> Cut {
+        Cut { call, kept }
+    }
+
     /// The same, counted from the end of a recovery of so many databases where no journal is: it asks
     /// for the length of each database twice, of each journal, and of the super-journal.
     pub fn after_recovery(self, databases: u32) -> Cut {
@@ -59,8 +62,9 @@ impl Cut {
     }
 
     /// Tells a card to lose power so.
+    // What is kept goes to the card by its number, by a rule of the project (docs/CARD.md).
     pub fn tell(self, card: &mut DelayedCard<'_>) -> anyhow::Result<()> {
-        let told = card.lose_power_at(self.call, self.kept);
+        let told = card.lose_power_at(self.call, self.kept as u8);
         told.ok().context("no such cut")
     }
 }

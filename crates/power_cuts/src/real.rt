@@ -34,6 +34,7 @@ fn write_new(
     database: usize,
     change: &Change,
 ) -> Result<(), Refusal> {
+    // nth, since a second iterator that is stepped in the loop was not proved: may it give its next?
     for (index, new) in (0u32..).zip(change.new.chunks_exact(PAGE)) {
         let old = change.old.chunks_exact(PAGE).nth(index as usize);
         if old != Some(new) {
@@ -62,10 +63,12 @@ fn print_files(rt: &HostRuntime, word: &str, card: &mut DelayedCard<'_>) -> anyh
     let mut buffer = vec![in rt.alloc(); 0u8; FILE]?;
     for name in FILES {
         if let Ok(Some(length)) = card.length(name.as_bytes()) {
+            // as, since no From goes from u32 to usize
             let end = (length as usize).min(buffer.len());
             let answer = card.read(name.as_bytes(), 0, &mut buffer[0..end]);
             answer.ok().context("a file is not read")?;
             println!(rt; "{word} {name}")?;
+            // written in both programs, since it asks for heap, and a library has none
             for line in buffer[0..end].chunks(32) {
                 println!(rt; "{}", hex::encode(rt.alloc(), line)?)?;
             }

@@ -1,9 +1,10 @@
 // A set of three databases on a delayed card, told call by call: without a cut, and with cuts in the
 // commit and in the recovery; and what is left by a cut at each call of the commit.
 use crate::board::{Answers, Cut, FILES, IMAGE, NAMES, named, prepared, shown, transact};
-use crate::words::{Judged, Place, Refused};
+use crate::words::{Committed, Journals, Place, Refused};
 use card::Card;
 use delayed_card::DelayedCard;
+use halves::Kept;
 use refusal::Refusal;
 use std::alloc::Global;
 use std::fmt;
@@ -12,42 +13,40 @@ use store::Set;
 /// The calls that the commit makes.
 const CALLS: u32 = 24;
 
+/// What the card can keep of its files, in the order of the table's columns.
+const CHOICES: [Kept; 3] = [Kept::Synced, Kept::Current, Kept::Mixed];
+
 /// A row: what was asked, and what was answered.
 fn row(rt: &HostRuntime, asked: &str, answer: impl fmt::Display + Drop) -> anyhow::Result<()> {
     println!(rt; "  {asked:<26}{answer}")?;
     Ok(())
 }
 
-/// A row for a refused call.
-fn refused(rt: &HostRuntime, asked: &str, refusal: Refusal) -> anyhow::Result<()> {
-    row(rt, asked, Refused(refusal))
+/// A row of what a call told, or of its refusal.
+fn answered<T: fmt::Display + Drop>(
+    rt: &HostRuntime,
+    asked: &str,
+    answer: Result<T, Refusal>,
+) -> anyhow::Result<()> {
+    match answer {
+        Ok(told) => row(rt, asked, told),
+        Err(refusal) => row(rt, asked, Refused(refusal)),
+    }
 }
 
 /// The rows of the transaction.
 fn tell(rt: &HostRuntime, answers: Answers) -> anyhow::Result<()> {
     row(rt, "begin", format_args!("transaction {}", answers.number))?;
     for (asked, answer) in answers.calls {
-        match answer {
-            Ok(()) => row(rt, asked, "done")?,
-            Err(refusal) => refused(rt, asked, refusal)?,
-        }
+        answered(rt, asked, answer.map(|()| "done"))?;
     }
-    match answers.commit {
-        Ok(left) => row(rt, "commit", format_args!("done, {left} journals left")),
-        Err(refusal) => refused(rt, "commit", refusal),
-    }
+    answered(rt, "commit", answers.commit.map(Committed))
 }
 
 /// A row of a recovery, with what was found of each journal.
 fn recover(rt: &HostRuntime, set: &mut Set<DelayedCard<'_>>) -> anyhow::Result<()> {
-    match set.recover() {
-        Ok(recovery) => {
-            let [probe, notes, trace, _] = recovery.found.map(Judged);
-            let found = format_args!("journals: probe {probe}; notes {notes}; trace {trace}");
-            row(rt, "recover", found)
-        }
-        Err(refusal) => refused(rt, "recover", refusal),
-    }
+    let found = set.recover().map(|recovery| Journals(recovery.found));
+    answered(rt, "recover", found)
 }
 
 /// A row of what the databases show.
@@ -58,7 +57,7 @@ fn show(rt: &HostRuntime, set: &mut Set<DelayedCard<'_>>) -> anyhow::Result<()> 
 /// A row of the files on a card, with their lengths.
 fn list(rt: &HostRuntime, card: &mut DelayedCard<'_>) -> anyhow::Result<()> {
     let mut files = Vec::new(rt.alloc());
-    for name in FILES {
+    for (_, name) in FILES {
         if let Ok(Some(length)) = card.length(name.as_bytes()) {
             files.push(format!(in rt.alloc(); "{name} {length}")?)?;
         }
@@ -102,7 +101,7 @@ fn outcome(heap: Global, cut: Cut) -> anyhow::Result<(String, String)> {
     let mut set = Set::new(named(&NAMES)?, card);
     let _ = set.recover();
     let answer = match transact(&mut set).commit {
-        Ok(left) => format!(in heap; "done, {left} journals left")?,
+        Ok(left) => Committed(left).to_string(heap)?,
         Err(Refusal::Card(fault)) => Place(fault).to_string(heap)?,
         Err(refusal) => Refused(refusal).to_string(heap)?,
     };
@@ -116,10 +115,11 @@ fn tell_each(rt: &HostRuntime) -> anyhow::Result<()> {
         "{:>4}  {:<26}{:<18}{:<18}{}",
         "call", "cut in", "kept synced", "kept all", "kept a mix"
     )?;
+    // the calls of a commit have numbers alone
     for call in 1..=CALLS {
-        let [(answer, synced), (_, all), (_, mix)] = [0, 1, 2].try_map(|kept| outcome(
+        let [(answer, synced), (_, all), (_, mix)] = CHOICES.try_map(|kept| outcome(
             rt.alloc(),
-            Cut { call, kept },
+            Cut::new(call, kept),
         ))?;
         println!(rt; "{call:>4}  {answer:<26}{synced:<18}{all:<18}{mix}")?;
     }
@@ -134,11 +134,11 @@ pub fn tell_set(rt: &HostRuntime) -> anyhow::Result<()> {
     println!(rt; "\nNo cut")?;
     tell_whole(rt)?;
     println!(rt; "\nPower cut where the commit writes trace, and again in the recovery: all old")?;
-    tell_cut(rt, Cut { call: 20, kept: 2 }, Cut { call: 22, kept: 2 })?;
+    tell_cut(rt, Cut::new(20, Kept::Mixed), Cut::new(22, Kept::Mixed))?;
     println!(rt;
         "\nPower cut where the commit deletes the super-journal, and again in the recovery: all new"
     )?;
-    tell_cut(rt, Cut { call: 22, kept: 1 }, Cut { call: 12, kept: 0 })?;
+    tell_cut(rt, Cut::new(22, Kept::Current), Cut::new(12, Kept::Synced))?;
     println!(rt;
         "\nPower cut at each call of the commit: what probe, notes and trace show after a recovery\n"
     )?;

@@ -12,7 +12,8 @@ impl fmt::Display for Place {
     fn fmt<W: fmt::Write>(&self, f: &mut fmt::Formatter<W>) -> fmt::Result {
         let fault = self.0;
         let call = fault.journal.card.call;
-        let file = FILES.get(fault.file).copied().unwrap_or("another file");
+        let known = FILES.iter().find(|(number, _)| *number == fault.file);
+        let file = known.map_or("another file", |(_, name)| *name);
         match fault.step {
             Some(step) => write!(f, "{step} {call} {file}"),
             None => write!(f, "no step {call} {file}"),
@@ -50,9 +51,20 @@ impl fmt::Display for Refused {
     }
 }
 
+/// What a commit that was carried out tells: how many journals it left.
+#[derive(Clone, Copy)]
+pub struct Committed(pub usize);
+
+impl fmt::Display for Committed {
+    fn fmt<W: fmt::Write>(&self, f: &mut fmt::Formatter<W>) -> fmt::Result {
+        let left = self.0;
+        write!(f, "done, {left} journals left")
+    }
+}
+
 /// What a journal was found to be.
 #[derive(Clone, Copy)]
-pub struct Judged(pub Found);
+struct Judged(Found);
 
 impl fmt::Display for Judged {
     fn fmt<W: fmt::Write>(&self, f: &mut fmt::Formatter<W>) -> fmt::Result {
@@ -61,5 +73,16 @@ impl fmt::Display for Judged {
             Found::Spent => f.write_str("spent"),
             Found::Hot { records } => write!(f, "hot, {records} written back"),
         }
+    }
+}
+
+/// What the journals of the three databases were found to be.
+#[derive(Clone, Copy)]
+pub struct Journals(pub [Found; 4]);
+
+impl fmt::Display for Journals {
+    fn fmt<W: fmt::Write>(&self, f: &mut fmt::Formatter<W>) -> fmt::Result {
+        let [probe, notes, trace, _] = self.0.map(Judged);
+        write!(f, "journals: probe {probe}; notes {notes}; trace {trace}")
     }
 }

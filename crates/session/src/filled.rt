@@ -6,25 +6,18 @@ use journal_writer::{put_count, put_header, put_name, put_record};
 /// The nonce of the journals that the program writes.
 const NONCE: u32 = 7;
 
-/// Puts the records of the pages, from page 1 on, and tells how many there are.
-fn put_pages(buffer: &mut [u8], pages: &[u8]) -> anyhow::Result<u32> {
-    let mut count = 0;
-    for (index, page) in (0..RECORD_LIMIT).zip(pages.chunks_exact(PAGE)) {
-        count = index.saturating_add(1);
-        put_record(buffer, index, NONCE, count, page)
-            .ok()
-            .context("a page finds no room in the journal")?;
-    }
-    Ok(count)
-}
-
 /// Fills the buffer with a journal of these pages, from page 1 on, and tells its length.
 pub fn fill(buffer: &mut [u8], pages: &[u8], name: Option<&[u8]>) -> anyhow::Result<usize> {
     let size = u32::try_from(pages.len() / PAGE).unwrap_or(u32::MAX);
     put_header(buffer, NONCE, size)
         .ok()
         .context("a database has 1 to 4,096 pages")?;
-    let count = put_pages(buffer, pages)?;
+    let count = size.min(RECORD_LIMIT);
+    for (index, page) in (0..count).zip(pages.chunks_exact(PAGE)) {
+        put_record(buffer, index, NONCE, index.saturating_add(1), page)
+            .ok()
+            .context("a page finds no room in the journal")?;
+    }
     put_count(buffer, count)
         .ok()
         .context("a journal has a record")?;
@@ -44,6 +37,7 @@ pub fn print_journal(rt: &HostRuntime, pages: &[u8], name: Option<&[u8]>) -> any
     let mut buffer = vec![in rt.alloc(); 0u8; JOURNAL_LIMIT]?;
     let length = fill(&mut buffer, pages, name)?;
     let end = length.min(buffer.len());
+    // written in both programs, since it asks for heap, and a library has none
     for line in buffer[0..end].chunks(32) {
         let line = hex::encode(rt.alloc(), line)?;
         println!(rt; "{line}")?;

@@ -4,6 +4,7 @@ use anyhow::Context;
 use journal::{PAGE, Sound, Verdict, judge};
 use journal_writer::put_count;
 use std::fmt;
+use std::ops::Range;
 
 /// The super-journal that the judged journal names.
 const SUPER: &[u8] = b"a-mj";
@@ -11,17 +12,17 @@ const SUPER: &[u8] = b"a-mj";
 /// A header, the record of one page, and the super-journal record of the name.
 const LENGTH: usize = 1056;
 
-/// The parts of the journal, each with its end.
-const PARTS: [(&str, usize); 9] = [
-    ("magic", 8),
-    ("count", 12),
-    ("nonce", 16),
-    ("three sizes", 28),
-    ("padding", 512),
-    ("page number", 516),
-    ("page", 1028),
-    ("checksum", 1032),
-    ("super-journal record", LENGTH),
+/// The parts of the journal, each with the places of its bytes.
+const PARTS: [(&str, Range<usize>); 9] = [
+    ("magic", 0..8),
+    ("count", 8..12),
+    ("nonce", 12..16),
+    ("three sizes", 16..28),
+    ("padding", 28..512),
+    ("page number", 512..516),
+    ("page", 516..1028),
+    ("checksum", 1028..1032),
+    ("super-journal record", 1032..LENGTH),
 ];
 
 /// A verdict, told in words.
@@ -74,9 +75,8 @@ fn judge_parts(rt: &HostRuntime, journal: &[u8; LENGTH]) -> anyhow::Result<()> {
         "\n{:<32}{:>6}{:>12}{:>12}{:>7}",
         "one byte flipped, in the", "spent", "damaged, 0", "damaged, 1", "sound"
     )?;
-    let mut start = 0;
-    for (name, end) in PARTS {
-        let verdicts: Vec<Verdict> = (start..end)
+    for (name, places) in PARTS {
+        let verdicts: Vec<Verdict> = places
             .map(|place| flipped(journal, place))
             .collect(rt.alloc())?;
         let given = |verdict: Verdict| verdicts.iter().filter(|v| **v == verdict).count();
@@ -87,7 +87,6 @@ fn judge_parts(rt: &HostRuntime, journal: &[u8; LENGTH]) -> anyhow::Result<()> {
             .filter(|v| matches!(v, Verdict::Sound(_)))
             .count();
         println!(rt; "{name:<32}{spent:>6}{other:>12}{first:>12}{sound:>7}")?;
-        start = end;
     }
     Ok(())
 }

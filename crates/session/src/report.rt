@@ -1,6 +1,7 @@
 // A report of calls: a row for each call, with its answer and what the card then holds.
 use card::{Card, CardFault};
 use std::alloc::Global;
+use std::fmt;
 
 /// The files that the report looks at after each call.
 const FILES: [&str; 2] = ["notes", "trace"];
@@ -8,52 +9,74 @@ const FILES: [&str; 2] = ["notes", "trace"];
 /// The most bytes of a file that the report shows.
 const SHOWN: usize = 27;
 
-/// What a call that was not refused tells, in words.
+/// What a call that was not refused tells.
 pub trait Told: Drop {
-    fn words(&self, heap: Global) -> anyhow::Result<String>;
+    fn tell<W: fmt::Write>(&self, f: &mut fmt::Formatter<W>) -> fmt::Result;
 }
 
 /// A call that tells nothing.
 impl Told for () {
-    fn words(&self, heap: Global) -> anyhow::Result<String> {
-        Ok(String::from_str(heap, "done")?)
+    fn tell<W: fmt::Write>(&self, f: &mut fmt::Formatter<W>) -> fmt::Result {
+        f.write_str("done")
     }
 }
 
 /// A call that tells a length, or that there is no file.
 impl Told for Option<u32> {
-    fn words(&self, heap: Global) -> anyhow::Result<String> {
+    fn tell<W: fmt::Write>(&self, f: &mut fmt::Formatter<W>) -> fmt::Result {
         match self {
-            None => Ok(String::from_str(heap, "absent")?),
-            Some(length) => Ok(format!(in heap; "{length} bytes")?),
+            None => f.write_str("absent"),
+            Some(length) => write!(f, "{length} bytes"),
         }
     }
 }
 
 /// A read, which tells bytes.
 impl<const N: usize> Told for [u8; N] {
-    fn words(&self, heap: Global) -> anyhow::Result<String> {
-        quoted(heap, self)
+    fn tell<W: fmt::Write>(&self, f: &mut fmt::Formatter<W>) -> fmt::Result {
+        let quoted = Quoted(self);
+        write!(f, "{quoted}")
     }
 }
 
 /// Bytes in quotes, with a dot for each that is no text.
-fn quoted(heap: Global, bytes: &[u8]) -> anyhow::Result<String> {
-    let text: String = bytes
-        .iter()
-        .map(|b| match *b {
-            32..=126 => char::from(*b),
-            _ => '.',
-        })
-        .collect(heap)?;
-    Ok(format!(in heap; "'{text}'")?)
+#[derive(Clone, Copy)]
+struct Quoted<'a>(&'a [u8]);
+
+impl fmt::Display for Quoted<'_> {
+    fn fmt<W: fmt::Write>(&self, f: &mut fmt::Formatter<W>) -> fmt::Result {
+        f.write_char('\'')?;
+        for byte in self.0 {
+            let shown = match *byte {
+                32..=126 => char::from(*byte),
+                _ => '.',
+            };
+            f.write_char(shown)?;
+        }
+        f.write_char('\'')
+    }
 }
 
-/// A refusal, with its cause's number and its origin.
-pub fn refusal(heap: Global, fault: CardFault) -> anyhow::Result<String> {
-    let CardFault { cause, origin, .. } = fault;
-    let number = cause.number();
-    Ok(format!(in heap; "refused: {cause} ({number}), origin {origin}")?)
+/// An answer in words: what the call tells, or the refusal, with its cause's number and its origin.
+#[derive(Drop)]
+struct Answer<T>(Result<T, CardFault>);
+
+/// The words of an answer, on the heap: so they can fill a column of a table.
+pub fn words<T: Told>(heap: Global, answer: Result<T, CardFault>) -> anyhow::Result<String> {
+    Ok(Answer(answer).to_string(heap)?)
+}
+
+impl<T: Told> fmt::Display for Answer<T> {
+    fn fmt<W: fmt::Write>(&self, f: &mut fmt::Formatter<W>) -> fmt::Result {
+        match &self.0 {
+            Ok(told) => told.tell(f),
+            Err(fault) => {
+                let CardFault { cause, origin, .. } = *fault;
+                let number = cause.number();
+                write!(f, "refused: {cause} ({number}), origin {origin}")
+            }
+        }
+    }
 }
 
 /// The file's first bytes in quotes; none of a file that is absent or is not read.
@@ -62,11 +85,13 @@ fn held<C: Card>(heap: Global, card: &mut C, name: &str) -> anyhow::Result<Optio
         return Ok(None);
     };
     let mut buffer = [0u8; SHOWN];
+    // as, since no From goes from u32 to usize
     let shown = (length as usize).min(SHOWN);
-    match card.read(name.as_bytes(), 0, &mut buffer[0..shown]) {
-        Ok(()) => Ok(Some(quoted(heap, &buffer[0..shown])?)),
-        Err(_) => Ok(None),
+    let answer = card.read(name.as_bytes(), 0, &mut buffer[0..shown]);
+    if answer.is_err() {
+        return Ok(None);
     }
+    Ok(Some(Quoted(&buffer[0..shown]).to_string(heap)?))
 }
 
 /// Each present file with what it holds.
@@ -83,6 +108,7 @@ pub fn holdings<C: Card>(heap: Global, card: &mut C) -> anyhow::Result<String> {
     Ok(files.join(heap, ", ")?)
 }
 
+/// A report that is being printed: its calls so far, and how many of them were refused.
 #[derive(Drop)]
 pub struct Report<'a> {
     rt: &'a HostRuntime,
@@ -91,6 +117,7 @@ pub struct Report<'a> {
 }
 
 impl Report<'_> {
+    /// A report with its title and the header of its table.
     pub fn begin<'a>(rt: &'a HostRuntime, title: &str) -> anyhow::Result<Report<'a>> {
         println!(rt; "{title}\n")?;
         println!(rt;
@@ -112,20 +139,17 @@ impl Report<'_> {
         card: &mut C,
     ) -> anyhow::Result<()> {
         let heap = self.rt.alloc();
+        // counted row by row, since a row is printed at once and no list of rows is kept
         self.calls = self.calls.saturating_add(1);
-        let answered = match answer {
-            Ok(told) => told.words(heap)?,
-            Err(fault) => {
-                self.refused = self.refused.saturating_add(1);
-                refusal(heap, fault)?
-            }
-        };
+        self.refused = self.refused.saturating_add(u32::from(answer.is_err()));
         let call = self.calls;
+        let answered = words(heap, answer)?;
         let holds = holdings(heap, card)?;
         println!(self.rt; "{call:>4}  {asked:<32}{answered:<34}{holds}")?;
         Ok(())
     }
 
+    /// Ends the report with its counts.
     pub fn end(self) -> anyhow::Result<()> {
         let Report { rt, calls, refused } = self;
         println!(rt; "\n{calls} calls, {refused} refused")?;
