@@ -59,6 +59,7 @@ fn a_place_is_at_the_end_or_before_it(rt: HostRuntime) {
 fn a_17th_file_finds_no_slot(rt: HostRuntime) {
     let mut image = [0xffu8; SMALL];
     let mut card = DirectCard::new(&mut image, 9);
+    // 16 names of one letter: the letter is the name, and no place in a list.
     for name in b'a'..=b'p' {
         assert_eq!(rt; card.create(&[name]), Ok(()));
     }

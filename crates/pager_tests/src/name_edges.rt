@@ -3,6 +3,7 @@ use names::ListRefusal::{Byte, Count, Equal, Length};
 use names::{ListRefusal, checked};
 
 /// The refusal of the list, none if it is checked.
+// An Option, since the names of a good list are not compared.
 fn refusal(list: &[&[u8]]) -> Option<ListRefusal> {
     checked(list).err()
 }

@@ -34,7 +34,7 @@ fn write_new(
     database: usize,
     change: &Change,
 ) -> Result<(), Refusal> {
-    // nth, since a second iterator that is stepped in the loop was not proved: may it give its next?
+    // nth: with a second iterator stepped in the loop, that its next may be called stayed unproved
     for (index, new) in (0u32..).zip(change.new.chunks_exact(PAGE)) {
         let old = change.old.chunks_exact(PAGE).nth(index as usize);
         if old != Some(new) {

@@ -66,6 +66,7 @@ fn a_super_journal_has_the_form_of_a_list(rt: HostRuntime) -> Result<(), Fail> {
 }
 
 /// The refusal of a recovery of two databases, the second of that length, absent if none.
+// An Option, since only the refusal is compared; the Result is the set-up's, which fails the test.
 fn refusal_at(rt: &impl Abort, length: Option<u32>) -> Result<Option<Refusal>, Fail> {
     let mut image = [0u8; IMAGE];
     let mut card = direct(&mut image, 2)?;

@@ -37,6 +37,7 @@ fn scene<'a>(
 }
 
 /// Recovers a scene in an image, and tells the refusal.
+// An Option, since only the refusal is compared; the Result is the set-up's, which fails the test.
 fn refusal_in(image: &mut [u8; IMAGE], files: &[Beside<'_>]) -> Result<Option<Refusal>, Fail> {
     let mut set = Set::new(names(2)?, scene(image, files)?);
     Ok(set.recover().err())
