@@ -17,19 +17,18 @@ use story::tell_set;
 /// What the program can be asked.
 const USAGE: &str = "power_cuts [cut CALL KEPT OLD NEW OLD NEW]";
 
-/// The word of that number, or how the program is asked.
-fn word(words: &[String], i: usize) -> anyhow::Result<&str> {
-    words.get(i).map(|word| word.as_str()).context(USAGE)
+/// The word of that number; empty if there is none.
+// No Option: a word that is missing is told as one that is no number or no file, where it is read.
+fn word(words: &[String], i: usize) -> &str {
+    words.get(i).map_or("", |word| word.as_str())
 }
 
 /// Prints what a cut in the commit of two databases left, and the recovered files.
 fn cut(rt: &HostRuntime, words: &[String]) -> anyhow::Result<()> {
-    let call = word(words, 2)?.parse()?;
-    let kept = Kept::try_from(word(words, 3)?.parse::<u8>()?);
+    let call = word(words, 2).parse()?;
+    let kept = Kept::try_from(word(words, 3).parse::<u8>()?);
+    let [old_a, new_a, old_b, new_b] = [4, 5, 6, 7].try_map(|i| fs::read(rt, word(words, i)))?;
     let kept = kept.ok().context("no such cut")?;
-    let [old_a, new_a, old_b, new_b] = [4, 5, 6, 7].try_map(|i| -> anyhow::Result<Vec<u8>> {
-        Ok(fs::read(rt, word(words, i)?)?)
-    })?;
     let a = Change {
         old: old_a,
         new: new_a,
@@ -44,10 +43,10 @@ fn cut(rt: &HostRuntime, words: &[String]) -> anyhow::Result<()> {
 /// Does what the words ask for; without words it prints the report.
 fn act(rt: &HostRuntime) -> anyhow::Result<()> {
     let words: Vec<String> = env::args(rt)?.collect(rt.alloc())?;
-    match words.get(1).map(|word| word.as_str()) {
-        None | Some("") => tell_set(rt),
-        Some("cut") => cut(rt, &words),
-        Some(_) => Err(anyhow!("{}", USAGE)),
+    match word(&words, 1) {
+        "" => tell_set(rt),
+        "cut" => cut(rt, &words),
+        _ => Err(anyhow!("{}", USAGE)),
     }
 }
 
