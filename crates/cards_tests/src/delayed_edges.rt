@@ -10,7 +10,8 @@ use std::test::Fail;
 /// Two halves of 16 slots, with 8 bytes for each file.
 const IMAGE: usize = 1440;
 
-/// The calls that the card is cut at, on a file that holds "abcd", of which "ab" is synced.
+// The calls that the card is cut at, on a file that holds "abcd", of which "ab" is synced.
+
 fn write(card: &mut DelayedCard<'_>) -> Result<(), CardFault> {
     card.write(b"f", 1, b"XYZW")
 }
@@ -49,7 +50,8 @@ fn left<F: FnOnce(&mut DelayedCard<'_>) -> Result<(), CardFault>>(
     card.write(b"f", 0, b"ab")?;
     card.sync(b"f")?;
     card.write(b"f", 2, b"cd")?;
-    // what is kept goes to the card by its number, by a rule of the project (docs/CARD.md)
+    // what is kept goes to the card by its number, by a rule of the project (docs/CARD.md): as, since the
+    // variants stand in the order of the numbers
     card.lose_power_at(1, kept as u8)?;
     let _ = last(&mut card);
     card.power();

@@ -12,6 +12,9 @@ pub enum Kept {
     Mixed,
 }
 
+/// All choices, in the order of their numbers.
+pub const CHOICES: [Kept; 3] = [Kept::Synced, Kept::Current, Kept::Mixed];
+
 /// A number that no choice has.
 #[derive(Clone, Copy, PartialEq, Eq, Debug)]
 pub struct UnknownKept(pub u8);

@@ -9,4 +9,4 @@ mod kept;
 mod loss;
 
 pub use both::Halves;
-pub use kept::{Kept, UnknownKept};
+pub use kept::{CHOICES, Kept, UnknownKept};

@@ -39,6 +39,7 @@ const OLD: [u8; PAGE] = [b'o'; PAGE];
 const NEW: [u8; PAGE] = [b'N'; PAGE];
 
 /// Power is to fail at a call from now, with what the card then keeps.
+// The tests of the set have such a struct too: the two share no crate, and one for ten lines is no plainer.
 #[derive(Clone, Copy)]
 pub struct Cut {
     call: u32,
@@ -62,7 +63,8 @@ impl Cut {
     }
 
     /// Tells a card to lose power so.
-    // What is kept goes to the card by its number, by a rule of the project (docs/CARD.md).
+    // What is kept goes to the card by its number, by a rule of the project (docs/CARD.md): as, since the
+    // variants stand in the order of the numbers.
     pub fn tell(self, card: &mut DelayedCard<'_>) -> anyhow::Result<()> {
         let told = card.lose_power_at(self.call, self.kept as u8);
         told.ok().context("no such cut")
@@ -70,6 +72,7 @@ impl Cut {
 }
 
 /// The names of a set's databases.
+// ok, here and in this program: the refusals are no errors of the library's kind, and the program says its own words.
 pub fn named(list: &[&[u8]]) -> anyhow::Result<Names> {
     checked(list).ok().context("the names are refused")
 }

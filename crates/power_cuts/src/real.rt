@@ -34,7 +34,8 @@ fn write_new(
     database: usize,
     change: &Change,
 ) -> Result<(), Refusal> {
-    // nth: with a second iterator stepped in the loop, that its next may be called stayed unproved
+    // nth: with a second iterator stepped in the loop, that its next may be called stayed unproved; the
+    // databases have few pages. as, since no From goes from u32 to usize
     for (index, new) in (0u32..).zip(change.new.chunks_exact(PAGE)) {
         let old = change.old.chunks_exact(PAGE).nth(index as usize);
         if old != Some(new) {

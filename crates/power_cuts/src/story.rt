@@ -4,7 +4,7 @@ use crate::board::{Answers, Cut, FILES, IMAGE, NAMES, named, prepared, shown, tr
 use crate::words::{Committed, Journals, Place, Refused};
 use card::Card;
 use delayed_card::DelayedCard;
-use halves::Kept;
+use halves::{CHOICES, Kept};
 use refusal::Refusal;
 use std::alloc::Global;
 use std::fmt;
@@ -12,9 +12,6 @@ use store::Set;
 
 /// The calls that the commit makes.
 const CALLS: u32 = 24;
-
-/// What the card can keep of its files, in the order of the table's columns.
-const CHOICES: [Kept; 3] = [Kept::Synced, Kept::Current, Kept::Mixed];
 
 /// A row: what was asked, and what was answered.
 fn row(rt: &HostRuntime, asked: &str, answer: impl fmt::Display + Drop) -> anyhow::Result<()> {

@@ -3,10 +3,11 @@ use crate::report::{holdings, words};
 use anyhow::{Context, bail};
 use card::{Card, CardFault};
 use cards::{DelayedCard, TroubleLayer};
-use halves::Kept;
+use halves::{CHOICES, Kept};
 use std::alloc::Global;
 
 /// The calls of the task, in their order.
+// Apart from the task, which stops at the first call that is refused.
 const CALLS: [&str; 7] = [
     "create notes",
     "write 'probe ready' into notes",
@@ -16,9 +17,6 @@ const CALLS: [&str; 7] = [
     "create trace",
     "delete notes",
 ];
-
-/// What the card keeps of its files, in the order of the table's columns.
-const KEPT: [Kept; 3] = [Kept::Synced, Kept::Current, Kept::Mixed];
 
 /// Two halves of 16 slots of 64 bytes.
 const IMAGE: usize = 2048;
@@ -42,7 +40,8 @@ fn task<C: Card>(card: &mut C) -> Result<(), CardFault> {
 fn remained(heap: Global, call: u32, kept: Kept) -> anyhow::Result<String> {
     let mut image = [0u8; IMAGE];
     let mut card = DelayedCard::new(&mut image, CARD);
-    // what is kept goes to the card by its number, by a rule of the project (docs/CARD.md)
+    // what is kept goes to the card by its number, by a rule of the project (docs/CARD.md): as, since the
+    // variants stand in the order of the numbers
     let told = card.lose_power_at(call, kept as u8);
     told.ok().context("no such cut")?;
     let _ = task(&mut card);
@@ -70,7 +69,7 @@ pub fn cut_each(rt: &HostRuntime) -> anyhow::Result<()> {
         "call", "cut in", "kept what was synced", "kept all", "kept a mix"
     )?;
     for (call, asked) in (1u32..).zip(CALLS) {
-        let [synced, all, mix] = KEPT.try_map(|kept| remained(rt.alloc(), call, kept))?;
+        let [synced, all, mix] = CHOICES.try_map(|kept| remained(rt.alloc(), call, kept))?;
         println!(rt; "{call:>4}  {asked:<32}{synced:<32}{all:<26}{mix}")?;
     }
     Ok(())

@@ -7,6 +7,7 @@ use journal_writer::{put_count, put_header, put_name, put_record};
 const NONCE: u32 = 7;
 
 /// Fills the buffer with a journal of these pages, from page 1 on, and tells its length.
+// ok, here and in this program: the refusals are no errors of the library's kind, and the program says its own words.
 pub fn fill(buffer: &mut [u8], pages: &[u8], name: Option<&[u8]>) -> anyhow::Result<usize> {
     let size = u32::try_from(pages.len() / PAGE).unwrap_or(u32::MAX);
     put_header(buffer, NONCE, size)

@@ -27,9 +27,9 @@ const PARTS: [(&str, Range<usize>); 9] = [
 
 /// A verdict, told in words.
 #[derive(Clone, Copy)]
-struct Told(Verdict);
+struct Judged(Verdict);
 
-impl fmt::Display for Told {
+impl fmt::Display for Judged {
     fn fmt<W: fmt::Write>(&self, f: &mut fmt::Formatter<W>) -> fmt::Result {
         match self.0 {
             Verdict::Spent => f.write_str("spent"),
@@ -52,10 +52,10 @@ fn judge_counts(rt: &HostRuntime, bytes: &mut [u8; LENGTH]) -> anyhow::Result<()
     println!(rt; "\nA journal of one zero page, nonce 7, that names a-mj: {LENGTH} bytes\n")?;
     for count in [0, 2, 1] {
         put_count(bytes, count).ok().context("a count of records")?;
-        println!(rt; "count {count:<26}{}", Told(judge(bytes)))?;
+        println!(rt; "count {count:<26}{}", Judged(judge(bytes)))?;
     }
     for cut in [1055, 1053, 1032, 1031, 511] {
-        println!(rt; "cut to {cut:<25}{}", Told(judge(&bytes[0..cut])))?;
+        println!(rt; "cut to {cut:<25}{}", Judged(judge(&bytes[0..cut])))?;
     }
     Ok(())
 }

@@ -15,12 +15,14 @@ fn head(rt: &HostRuntime) -> anyhow::Result<()> {
 }
 
 /// A row: what was asked and answered, and what the memory then holds.
+// The memory goes to each row, and no struct has it: one would lend what the next call changes.
 fn row<T: Drop>(
     rt: &HostRuntime,
     asked: &str,
     answer: Result<T, Refusal>,
     memory: &Memory,
 ) -> anyhow::Result<()> {
+    // a string, since only one fills a column, and in this one place
     let answered = match answer {
         Ok(_) => String::from_str(rt.alloc(), "done")?,
         Err(refusal) => format!(in rt.alloc(); "refused: {}", refusal.number())?,

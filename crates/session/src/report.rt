@@ -10,6 +10,7 @@ const FILES: [&str; 2] = ["notes", "trace"];
 const SHOWN: usize = 27;
 
 /// What a call that was not refused tells.
+// A trait of our own: Display cannot be given to () and to an Option.
 pub trait Told: Drop {
     fn tell<W: fmt::Write>(&self, f: &mut fmt::Formatter<W>) -> fmt::Result;
 }

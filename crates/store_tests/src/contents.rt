@@ -86,7 +86,7 @@ fn make_database<C: Card>(card: &mut C, database: u8) -> Result<(), CardFault> {
     let name = [b'a'.saturating_add(database)];
     card.create(&name)?;
     card.write(&name, 0, &Page::new(database, 1, Version::Old).bytes())?;
-    // as, since no From narrows a number, and a constant's is seen to fit
+    // as, since no From narrows a number: that a page's length fits is seen
     card.write(
         &name,
         PAGE as u32,

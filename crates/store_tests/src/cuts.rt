@@ -6,13 +6,14 @@ use crate::contents::{IMAGE, Version, check_all, commit_new, make_databases, nam
 use crate::trials::calls_of;
 use card::Card;
 use delayed_card::{DelayedCard, Untold};
-use halves::Kept;
+use halves::{CHOICES, Kept};
 use refusal::{Refusal, Step};
 use std::process::Abort;
 use std::test::Fail;
 use store::Set;
 
 /// A power failure: at which call from now, and what the card keeps.
+// The program of power cuts has such a struct too: the two share no crate, and one for ten lines is no plainer.
 #[derive(Clone, Copy)]
 pub struct Cut {
     call: u32,
@@ -26,14 +27,12 @@ impl Cut {
     }
 
     /// Tells a card to lose power so.
-    // What is kept goes to the card by its number, by a rule of the project (docs/CARD.md).
+    // What is kept goes to the card by its number, by a rule of the project (docs/CARD.md): as, since the
+    // variants stand in the order of the numbers.
     fn tell(self, card: &mut DelayedCard<'_>) -> Result<(), Untold> {
         card.lose_power_at(self.call, self.kept as u8)
     }
 }
-
-/// What the card can keep of its files.
-const CHOICES: [Kept; 3] = [Kept::Synced, Kept::Current, Kept::Mixed];
 
 /// A delayed card with the files of the first databases, that is to lose power.
 pub fn delayed(image: &mut [u8], count: u8, cut: Cut) -> Result<DelayedCard<'_>, Fail> {
@@ -136,6 +135,7 @@ fn check_recovery(rt: &impl Abort, count: u8, first: Cut, second: Cut) -> Result
 
 /// Cuts the recovery after a cut commit at each of its calls, whatever the card keeps, and tells how
 /// many recoveries were cut.
+// Here and below a fold that stops at its bound, since sum asks that the total fits.
 fn recovery_cuts(rt: &impl Abort, count: u8, first: Cut) -> Result<u32, Fail> {
     CHOICES
         .into_iter()

@@ -12,7 +12,7 @@ use store::Set;
 const CALLS: u32 = 100;
 
 /// Whether a commit was done with no journal left, and whether the recovery after it was good.
-// Two flags, since each of the four pairs can come.
+// Two flags: one caller asks for each, and neither follows from the other.
 #[derive(Clone, Copy)]
 struct Outcome {
     committed: bool,
@@ -66,6 +66,7 @@ fn each_fault_of_a_commit(rt: HostRuntime) -> Result<(), Fail> {
 }
 
 /// Refuses each call after a refused one in turn, and tells how many recoveries were refused.
+// Here and below a fold that stops at its bound, since sum asks that the total fits.
 fn refused_after(rt: &impl Abort, count: u8, first: u32) -> Result<u32, Fail> {
     let recovered = |after: u32| -> Result<bool, Fail> {
         let second = first.saturating_add(after);
