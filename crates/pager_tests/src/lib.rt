@@ -1,4 +1,4 @@
-// The edges of a transaction's memory and of lists of names, run and compared.
+// The edges of a transaction's memory and of lists of names, and the numbers of their refusals, run and compared.
 #![tactic(auto)]
 
 #[cfg(test)]

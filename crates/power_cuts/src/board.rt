@@ -78,6 +78,7 @@ pub fn named(list: &[&[u8]]) -> anyhow::Result<Names> {
 }
 
 /// Makes a file of those bytes.
+// The tests of the set make theirs by the same three calls: the two share no crate.
 pub fn put(card: &mut DelayedCard<'_>, name: &[u8], bytes: &[u8]) -> Result<(), CardFault> {
     card.create(name)?;
     card.write(name, 0, bytes)?;

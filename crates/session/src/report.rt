@@ -96,6 +96,7 @@ fn held<C: Card>(heap: Global, card: &mut C, name: &str) -> anyhow::Result<Optio
 }
 
 /// Each present file with what it holds.
+// The program of power cuts lists lengths so: the two share no crate, and a library has no heap.
 pub fn holdings<C: Card>(heap: Global, card: &mut C) -> anyhow::Result<String> {
     let mut files = Vec::new(heap);
     for name in FILES {

@@ -1,5 +1,5 @@
 // The set, run: with a power failure or a device fault at each call of the card, with damaged files, and
-// at the edges of its calls.
+// at the edges of its calls; and the numbers of its refusals.
 #![tactic(auto)]
 
 #[cfg(test)]
