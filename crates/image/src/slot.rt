@@ -16,8 +16,9 @@ const NAME_LENGTH: usize = 32;
 /// Where the file's length stands.
 pub const FILE_LENGTH: usize = 33;
 
-// `head` is asked by each function below. Tried as a ghost field of a struct: each method has to take the bytes out of it
-// again, its clauses say `self.exit.0.now` for `slot.new`, and for reading there has to be a second struct.
+// `head` is asked by the functions that read or write the file's length. Tried as a ghost field of a struct: each method
+// has to take the bytes out of it again, its clauses say `self.exit.0.now` for `slot.new`, and for reading there has to be
+// a second struct.
 
 /// Whether the slot is free for a file.
 #[tactic(auto, unfolding(crate::specs::Layout::free))]
@@ -31,11 +32,10 @@ pub fn is_free(slot: &[u8]) -> bool
 pub fn is_named(slot: &[u8], name: &[u8]) -> bool
     ensures { result ≡ named name.now slot.now }
 {
-    let n = name.len();
     is_name(name)
         && slot.len() >= HEAD
-        && usize::from(slot[NAME_LENGTH]) == n
-        && slot[0..n] == name[..]
+        && usize::from(slot[NAME_LENGTH]) == name.len()
+        && slot.starts_with(name)
 }
 
 /// The bytes of the file in the slot. For the crates of this repository: it wants a slot with its head.
@@ -52,6 +52,8 @@ pub fn content(slot: &[u8]) -> &[u8]
 }
 
 /// Writes down how many bytes the file has.
+// `small` and not a `u32`, here and below: the lengths come from slices, so `put_bytes` and the mix of two halves would cast
+// theirs in this function's place, and `resize` would cast its own back.
 fn put_length(slot: &mut [u8], length: usize)
     requires head { 37 ≤ count slot.old }
     requires small { length < 2 ^ 32 }
