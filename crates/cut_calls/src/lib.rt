@@ -15,6 +15,9 @@ ghost use Rattle.cut_calls.specs.Calls.{Call, Cut, Lose, is_undone};
 use card::Cause;
 use halves::{Halves, Kept};
 
+// Not methods of a struct of `halves` and `lost`: what is lost is told for one call of the card, so the card would make the
+// struct in each call and give it up at its end.
+
 /// Loses power if that was told, and then answers so.
 fn lose(halves: &mut Halves, lost: Option<Kept>) -> Result<(), Cause>
     ensures { Lose lost halves.old result halves.new }

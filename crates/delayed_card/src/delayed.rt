@@ -56,7 +56,8 @@ impl DelayedCard<'_> {
     }
 
     /// Counts a call, and tells what is kept if power is to fail at it; refused while power is off.
-    // Tried with a closure for the whole call: a proof does not learn what it left in a read's buffer.
+    // Tried with a closure for the whole call: only the read stuck, where a proof does not learn what the closure left in its
+    // buffer. The six other calls with the closure, and the read without, would be no plainer.
     fn begin(&mut self, call: CardCall) -> Result<Option<Kept>, CardFault>
         ensures powered { MatchResult result (λ lost. (self.old.on ≡ true) × (lost ≡ lost_now self.old.cut) × (self.new.on ≡ still_on lost)) (λ fault. (self.old.on ≡ false) × (self.new.on ≡ false) × (fault ≡ record { cause = Power; call = call; origin = self.old.origin })) }
         ensures counted { self.new.cut ≡ next_cut self.old.cut }
@@ -153,7 +154,6 @@ impl<'a> Card for DelayedCard<'a> {
     }
 
     fn powered(&self) -> bool {
-        let DelayedCard { on, .. } = self;
-        *on
+        self.on
     }
 }

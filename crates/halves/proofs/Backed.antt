@@ -1,5 +1,5 @@
 -- What the synced half has of each file, as calls change the halves.
-use Rattle.std.proofs.Common.{◌≡◌, ℕ, zero, suc, ◌<◌, Bool, true, false, cond, Some, None, Err, Option, Result, sym, refl, ap, ◌∙◌, subst}
+use Rattle.std.proofs.Common.{◌≡◌, ℕ, zero, suc, ◌<◌, Bool, true, false, cond, length, Some, None, Err, Option, Result, sym, refl, ap, ◌∙◌, subst}
 use Rattle.card.specs.declared.fault.Cause.{Cause}
 use Rattle.card.specs.declared.fault.Cause.TheVariants.{Absent}
 use native.Mathlib.Decide.{ℕ_discrete}
@@ -71,8 +71,8 @@ pair_stays op n current synced current' done still keeps =
 -- a call on the current half alone
 pub stored_paired :
     {V : Type 0} (op : Op) (n : Name) (current synced : Bytes) {r : Result V Cause} {current' : Bytes} →
-    Stored op n current r current' → moves op ≡ false → ((c s : Option Bytes) → backing op c s ≡ s) → Paired op n current synced r current' synced
-stored_paired op n current synced {r} {current'} stored still keeps = record { answer = stored.answer; left = by (refusal r) stored.left }
+    Stored op n current r current' → length current' ≡ length current → moves op ≡ false → ((c s : Option Bytes) → backing op c s ≡ s) → Paired op n current synced r current' synced
+stored_paired op n current synced {r} {current'} stored long still keeps = record { answer = stored.answer; left = by (refusal r) stored.left; long = long }
   where
     by : (x : Option Cause) → Left x op n current current' → PairLeft x op n current synced current' synced
     by None done = pair_stays op n current synced current' done still keeps
@@ -80,10 +80,10 @@ stored_paired op n current synced {r} {current'} stored still keeps = record { a
 
 -- an absent file's refusal that a call passes up, with both halves as they were
 pub passed_paired :
-    {V : Type 0} (op : Op) (n : Name) (current synced current' synced' : Bytes) (r : Result V Cause) (x : Cause) → (y : Cause) × (r ≡ Err y) × (y ≡ x) → PresentAt n current (Err x) →
-    test op None ≡ Some Absent → current' ≡ current → synced' ≡ synced → Paired {V = V} op n current synced r current' synced'
-passed_paired op n current synced current' synced' r x passed why absent same same-synced =
-    rw (passed.1, passed.2) (record { answer = answer_absent current n op x why.0 why.1 absent; left = (same, same-synced) })
+    {V : Type 0} (op : Op) (n : Name) (current synced : Bytes) (r : Result V Cause) (x : Cause) → (y : Cause) × (r ≡ Err y) × (y ≡ x) → PresentAt n current (Err x) →
+    test op None ≡ Some Absent → Paired {V = V} op n current synced r current synced
+passed_paired op n current synced r x passed why absent =
+    rw (passed.1, passed.2) (record { answer = answer_absent current n op x why.0 why.1 absent; left = (refl, refl); long = refl })
 
 pub pair_synced : (n : Name) (current synced synced' : Bytes) (k : ℕ) → FirstSlot (named n) current (Some k) → Settled current synced k synced' → PairDone sync n current synced current synced'
 pair_synced n current synced synced' k found settled =

@@ -1,5 +1,5 @@
 -- Slots given what is kept of their files, one after the other, and what both halves then hold.
-use Rattle.std.proofs.Common.{◌≡◌, ℕ, zero, suc, ◌+◌, ◌*◌, ◌/◌, ◌<◌, Bool, true, false, cond, ◌⊎◌, length, take, Some, None, Option, sym, refl, ap, ◌∙◌, subst, ap₂, inl, inr, ⊎_elim, arith, below_more}
+use Rattle.std.proofs.Common.{◌≡◌, ℕ, zero, suc, ◌*◌, ◌/◌, ◌<◌, Bool, true, false, cond, ◌⊎◌, length, take, Some, None, Option, sym, refl, ap, ◌∙◌, subst, ap₂, inl, inr, ⊎_elim, arith}
 use Rattle.std.proofs.lemmas.Bool.{cases_Bool}
 use Rattle.card.specs.Meaning.{Bytes, Name}
 use Rattle.card.specs.Calls.{overwrite}
@@ -90,7 +90,7 @@ first_kept kept n f a s (suc k) =
 -- with every slot done, each file is what is kept of it
 pub kept_as : (kept : Kept) (current synced current' synced' : Bytes) → KeptBelow kept current synced 16 current' synced' → KeptAs kept current synced current' synced'
 unfolding held backed free_slots
-kept_as kept current synced current' synced' all = record { holds = holds; backs = backs; frees = free_same (slot current') (slot current) 16 (λ j lt. free_front (slot current j) (slot current' j) (size j lt) (all.name j lt)) }
+kept_as kept current synced current' synced' all = record { holds = holds; backs = backs; frees = free_same (slot current') (slot current) 16 (λ j lt. free_front (slot current j) (slot current' j) (size j lt) (all.name j lt)); long = all.long }
   where
     size : (j : ℕ) → j < 16 → length (slot current' j) ≡ length (slot current j)
     size j lt = length_slot current' j lt ∙ ap (λ (n : ℕ). n / 16) all.long ∙ sym (length_slot current j lt)
@@ -114,6 +114,7 @@ kept_small kept current synced small =
       holds = λ n. none n (λ k. content (slot current k)) ∙ sym (ap₂ (kept_of kept) (none n (λ k. content (slot current k))) (none n (λ k. content (slot synced k))));
       backs = λ n. none n (λ k. content (slot synced k)) ∙ sym (none n (λ k. content (slot current k)));
       frees = refl;
+      long = refl;
     }
   where
     none : (n : Name) (belongs : ℕ → Bytes) → first_of n (slot current) belongs 16 ≡ None

@@ -38,6 +38,7 @@ pub record KeptAs (kept : Kept) (current synced current' synced' : Bytes) : Type
   pub holds : (n : Name) → held current' n ≡ kept_of kept (held current n) (backed current synced n)
   pub backs : (n : Name) → backed current' synced' n ≡ held current' n
   pub frees : free_slots current' ≡ free_slots current
+  pub long : length current' ≡ length current
 
 -- what the synced half has of a call's file after the work
 abbrev pub backing : Op → Option Bytes → Option Bytes → Option Bytes
@@ -62,6 +63,7 @@ PairLeft (Some x) op n current synced current' synced' = (current' ≡ current) 
 pub record Paired {V : Type 0} (op : Op) (n : Name) (current synced : Bytes) (r : Result V Cause) (current' synced' : Bytes) : Type 0 where
   pub answer : refusal r ≡ answer_of op n current
   pub left : PairLeft (refusal r) op n current synced current' synced'
+  pub long : length current' ≡ length current
 
 -- the slot k of the synced half became the current one's, and no other slot changed
 pub record Settled (current synced : Bytes) (k : ℕ) (synced' : Bytes) : Type 0 where

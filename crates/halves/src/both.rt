@@ -9,7 +9,7 @@ ghost use Rattle.halves.specs.Halves.{Settled, SlotKept, KeptAs};
 use crate::kept::Kept;
 use crate::loss::choose;
 use card::Cause;
-use image::{HEAD, SLOTS, at_slot, slot_at};
+use image::{HEAD, SLOTS, at_slot, slot_at, slot_size};
 
 /// An image in two halves of equal size: what its files hold now, and what is surely kept of them.
 #[derive(Drop)]
@@ -37,14 +37,10 @@ impl Halves<'_> {
     }
 
     /// The slot of a present file, or why there is none.
-    fn present(&mut self, name: &[u8]) -> Result<usize, Cause>
-        ensures found { PresentAt name.now self.old.current.now result }
-        ensures current { self.new.current.now ≡ self.old.current.now }
-        ensures synced { self.new.synced.now ≡ self.old.synced.now }
+    fn present(&self, name: &[u8]) -> Result<usize, Cause>
+        ensures { PresentAt name.now self.now.current.now result }
     {
-        // Lent on first: of a field that is passed as a shared slice, only its length stays known.
-        let current = &mut *self.current;
-        image::present(current, name)
+        image::present(self.current, name)
     }
 
     /// Copies a slot of the current half over the same slot of the synced half.
@@ -53,7 +49,7 @@ impl Halves<'_> {
         ensures settled { Settled self.old.current.now self.old.synced.now k self.new.synced.now }
         ensures current { self.new.current.now ≡ self.old.current.now }
     {
-        // Lent on first, as in `present`.
+        // Lent on first: of a field of `&mut self` that is passed as a shared slice, only its length stays known.
         let current = &mut *self.current;
         at_slot(
             self.synced,
@@ -68,7 +64,7 @@ impl Halves<'_> {
         requires head { 37 ≤ count self.old.current.now / 16 }
         ensures { SlotKept choice k self.old.current.now self.old.synced.now self.new.current.now self.new.synced.now }
     {
-        // Lent on first, as in `present`.
+        // Lent on first, as in `settle`.
         let synced = &mut *self.synced;
         at_slot(
             self.current,
@@ -82,7 +78,6 @@ impl Halves<'_> {
     #[tactic(auto, using(crate::proofs::Backed::stored_paired))]
     pub fn length(&mut self, name: &[u8]) -> Result<Option<u32>, Cause>
         ensures paired { Answers length_of name.now self.old result self.new }
-        ensures size { count self.new.current.now ≡ count self.old.current.now }
         ensures told { IfOk result (λ told. told ≡ length_told (held self.old.current.now name.now)) }
     {
         image::length(self.current, name)
@@ -92,7 +87,6 @@ impl Halves<'_> {
     #[tactic(auto, using(crate::proofs::Backed::stored_paired))]
     pub fn read(&mut self, name: &[u8], place: u32, buffer: &mut [u8]) -> Result<(), Cause>
         ensures paired { Answers (reading place (count buffer.old)) name.now self.old result self.new }
-        ensures size { count self.new.current.now ≡ count self.old.current.now }
         ensures told { ReadInto (held self.old.current.now name.now) place buffer.old result buffer.new }
     {
         image::read(self.current, name, place, buffer)
@@ -100,8 +94,7 @@ impl Halves<'_> {
 
     /// Makes an empty file in both halves.
     pub fn create(&mut self, name: &[u8]) -> Result<(), Cause>
-        ensures paired { Answers creating name.now self.old result self.new }
-        ensures size { count self.new.current.now ≡ count self.old.current.now }
+        ensures { Answers creating name.now self.old result self.new }
     {
         image::create(self.current, name)?;
         if let Ok(made) = self.present(name) {
@@ -113,8 +106,7 @@ impl Halves<'_> {
     /// Puts bytes into the file from a place on.
     #[tactic(auto, using(crate::proofs::Backed::stored_paired))]
     pub fn write(&mut self, name: &[u8], place: u32, bytes: &[u8]) -> Result<(), Cause>
-        ensures paired { Answers (writing place bytes.now) name.now self.old result self.new }
-        ensures size { count self.new.current.now ≡ count self.old.current.now }
+        ensures { Answers (writing place bytes.now) name.now self.old result self.new }
     {
         image::write(self.current, name, place, bytes)
     }
@@ -122,16 +114,14 @@ impl Halves<'_> {
     /// Cuts the file, or fills it with zeros, to a length.
     #[tactic(auto, using(crate::proofs::Backed::stored_paired))]
     pub fn set_length(&mut self, name: &[u8], length: u32) -> Result<(), Cause>
-        ensures paired { Answers (set_length length) name.now self.old result self.new }
-        ensures size { count self.new.current.now ≡ count self.old.current.now }
+        ensures { Answers (set_length length) name.now self.old result self.new }
     {
         image::set_length(self.current, name, length)
     }
 
     /// Makes what the file holds now what is surely kept of it.
     pub fn sync(&mut self, name: &[u8]) -> Result<(), Cause>
-        ensures paired { Answers syncing name.now self.old result self.new }
-        ensures size { count self.new.current.now ≡ count self.old.current.now }
+        ensures { Answers syncing name.now self.old result self.new }
     {
         let changed = self.present(name)?;
         self.settle(changed);
@@ -140,8 +130,7 @@ impl Halves<'_> {
 
     /// Makes a present file absent in both halves.
     pub fn delete(&mut self, name: &[u8]) -> Result<(), Cause>
-        ensures paired { Answers deleting name.now self.old result self.new }
-        ensures size { count self.new.current.now ≡ count self.old.current.now }
+        ensures { Answers deleting name.now self.old result self.new }
     {
         let freed = self.present(name)?;
         image::delete(self.current, name)?;
@@ -151,10 +140,11 @@ impl Halves<'_> {
 
     /// Leaves what is kept of each file in both halves.
     pub fn keep(&mut self, choice: Kept)
-        ensures kept { KeptAs choice self.old.current.now self.old.synced.now self.new.current.now self.new.synced.now }
-        ensures size { count self.new.current.now ≡ count self.old.current.now }
+        ensures { KeptAs choice self.old.current.now self.old.synced.now self.new.current.now self.new.synced.now }
     {
-        if self.current.len() / SLOTS < HEAD {
+        // Lent on first, as in `settle`.
+        let current = &mut *self.current;
+        if slot_size(current) < HEAD {
             return;
         }
         // By number, not by chunks of both halves: what a half holds once its chunks were lent out is not known (tried).

@@ -13,5 +13,6 @@ pub use empty::clear;
 pub use fault::blame;
 pub use slot::{FILE_LENGTH, HEAD, content, resize};
 pub use slots::{
-    SLOTS, at_slot, create, delete, find, length, present, read, set_length, slot_at, sync, write,
+    SLOTS, at_slot, create, delete, find, length, present, read, set_length, slot_at, slot_size,
+    sync, write,
 };

@@ -28,14 +28,14 @@ pub fn is_free(slot: &[u8]) -> bool
 pub fn is_named(slot: &[u8], name: &[u8]) -> bool
     ensures { result ≡ named name.now slot.now }
 {
-    let n = name.len();
     is_name(name)
         && slot.len() >= HEAD
-        && usize::from(slot[NAME_LENGTH]) == n
-        && slot[0..n] == name[..]
+        && usize::from(slot[NAME_LENGTH]) == name.len()
+        && slot.starts_with(name)
 }
 
-// `head` is asked of callers, and no struct keeps it (tried): each method takes the bytes out first, and says `self.exit.0.now`.
+// `head` is asked by the functions that read or write the file's length, and no struct keeps it (tried): each method takes the
+// bytes out first, and says `self.exit.0.now`.
 
 /// The bytes of the file in the slot. For the crates of this repository: it wants a slot with its head.
 pub fn content(slot: &[u8]) -> &[u8]
@@ -51,6 +51,8 @@ pub fn content(slot: &[u8]) -> &[u8]
 }
 
 /// Writes down how many bytes the file has.
+// `small` and not a `u32`, here and below: the lengths come from slices, so `put_bytes` and the mix of two halves would cast
+// theirs in this function's place, and `resize` would cast its own back.
 fn put_length(slot: &mut [u8], length: usize)
     requires head { 37 ≤ count slot.old }
     requires small { length < 2 ^ 32 }

@@ -4,7 +4,7 @@ ghost use Rattle.std.specs.Fn.{FnOnceTakesAtMut, FnOnceReturnsAtMut};
 ghost use Rattle.card.specs.declared.fault.Cause.TheVariants.{Absent, Range};
 ghost use Rattle.card.specs.Calls.{after_name, name_ok, length_told};
 ghost use Rattle.card.specs.Calls.Op.{length_of, read as reading, create as creating, write as writing, set_length, sync as syncing, delete as deleting};
-ghost use Rattle.image.specs.Layout.{FirstSlot, slot as slot_of, named, free, held, content, room as room_of};
+ghost use Rattle.image.specs.Layout.{FirstSlot, slot as slot_of, slot_size, named, free, held, content, room as room_of};
 ghost use Rattle.image.specs.Stored.{Stored, PresentAt, ReadInto, Freed, SlotDone};
 
 use crate::slot;
@@ -15,6 +15,13 @@ use std::ops::Range;
 /// The slots of an image.
 pub const SLOTS: usize = 16;
 
+/// The bytes of a slot of the image.
+pub fn slot_size(image: &[u8]) -> usize
+    ensures { result ≡ slot_size image.now }
+{
+    image.len() / SLOTS
+}
+
 // `k < 16` is asked of callers: loops and searches over `0..SLOTS` give plain numbers, which a type would be made from each time.
 
 /// The bounds of a slot of the image.
@@ -24,7 +31,7 @@ fn bounds(image: &[u8], k: usize) -> Range<usize>
     ensures end { result.end ≡ result.start + count image.now / 16 }
     ensures within { result.end ≤ count image.now }
 {
-    let size = image.len() / SLOTS;
+    let size = slot_size(image);
     let start = k * size;
     start..start + size
 }
@@ -67,11 +74,11 @@ fn find_free(image: &[u8]) -> Option<usize>
 pub fn present(image: &[u8], name: &[u8]) -> Result<usize, Cause>
     ensures { PresentAt name.now image.now result }
 {
-    match find(image, name) {
-        Some(k) => Ok(k),
-        None if is_name(name) => Err(Cause::Absent),
-        None => Err(Cause::Range),
-    }
+    find(image, name).ok_or_else(|| if is_name(name) {
+        Cause::Absent
+    } else {
+        Cause::Range
+    })
 }
 
 /// Whether so many bytes from a place on end within a limit.
@@ -93,7 +100,7 @@ fn may_write(length: usize, place: u32, bytes: usize) -> bool
 fn room(image: &[u8]) -> usize
     ensures { result ≡ room_of image.now }
 {
-    (image.len() / SLOTS).saturating_sub(HEAD)
+    slot_size(image).saturating_sub(HEAD)
 }
 
 /// How many bytes the file has; none if it is absent.
@@ -132,9 +139,7 @@ pub fn create(image: &mut [u8], name: &[u8]) -> Result<(), Cause>
     if find(image, name).is_some() {
         return Err(Cause::Present);
     }
-    let Some(k) = find_free(image) else {
-        return Err(Cause::Device);
-    };
+    let k = find_free(image).ok_or(Cause::Device)?;
     at_slot(image, k, |slot| slot::claim(slot, name));
     Ok(())
 }
@@ -187,7 +192,7 @@ fn free_all(image: &mut [u8], name: &[u8])
     ensures { Freed (named name.now) image.old image.new }
 {
     while let Some(k) = find(image, name) {
-        at_slot(image, k, |slot| slot::release(slot));
+        at_slot(image, k, slot::release);
     }
 }
 

@@ -153,7 +153,6 @@ impl<C: Card> Card for TroubleLayer<C> {
     }
 
     fn powered(&self) -> bool {
-        let on = self.below.powered();
-        on
+        self.below.powered()
     }
 }

@@ -3,11 +3,11 @@ use Rattle.halves.specs.Halves.{KeptBelow}
 use Rattle.halves.proofs.Keeping.{kept_as, kept_small}
 use Rattle.halves.proofs.both.Halves.keep.Goals as goal
 
-pub returns-then-self-lt-HEAD-clause-kept : goal.returns-then-self-lt-HEAD-clause-kept
-returns-then-self-lt-HEAD-clause-kept c = kept_small c.args.choice c.args.self.now.current.now c.args.self.now.synced.now c.if-self-lt-HEAD.true
+pub returns-then-slot_size-lt-HEAD : goal.returns-then-slot_size-lt-HEAD
+returns-then-slot_size-lt-HEAD c = kept_small c.args.choice c.args.self.now.current.now c.args.self.now.synced.now (omega (arith, c.slot_size.ensures, c.if-slot_size-lt-HEAD.true))
 
-pub returns-clause-kept : goal.returns-clause-kept
-returns-clause-kept c =
+pub returns : goal.returns
+returns c =
     let all : c.loop-k.k ≡ 16 = omega arith in
     let current = c.args.self.now.current.now in
     let synced = c.args.self.now.synced.now in
