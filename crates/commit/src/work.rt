@@ -26,7 +26,7 @@ fn changed_databases(memory: &Memory, count: usize) -> Few<usize, DATABASES>
     requires { count ≤ 4 }
     ensures { result.items ≡ changed_list memory.now count }
 {
-    let mut changed = Few::new(0);
+    let mut changed = Few::new();
     for database in (0..count).filter(|database| is_changed(memory, *database)) {
         changed.push(database);
     }

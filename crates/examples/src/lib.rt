@@ -10,9 +10,5 @@ pub fn is_sound(bytes: &[u8]) -> bool
     ensures table { Table }
     ensures sound { SoundAs bytes.now result }
 {
-    match judge(bytes) {
-        Verdict::Sound(_) => true,
-        Verdict::Damaged { record: _ } => false,
-        Verdict::Spent => false,
-    }
+    matches!(judge(bytes), Verdict::Sound(_))
 }

@@ -1,8 +1,8 @@
-// Up to so many values in fixed memory. It is not the library's `arrayvec`, since that is not `Copy`: names of
-// files and the memory of a transaction are copied as a whole.
+// Up to so many values in fixed memory. It is not the library's `arrayvec`, since that is not `Copy`, and
+// names of files and the memory of a transaction are `Copy` for their callers.
 #![tactic(auto)]
 
-ghost use Rattle.std.specs.Prelude.{◌≡◌, ℕ, ◌+◌, ◌<◌, ◌≤◌, List, [], ◌∷◌, ◌++◌, length as count, take, drop, ◌==◌, slice_set};
+ghost use Rattle.std.specs.Prelude.{◌≡◌, ◌+◌, ◌<◌, ◌≤◌, [], ◌∷◌, ◌++◌, length as count, take, drop, ◌==◌, slice_set};
 
 use std::marker::Model;
 
@@ -33,33 +33,44 @@ impl<T, const N: usize> Model for Few<T, N> {
     } };
 }
 
-impl<T: Copy, const N: usize> Few<T, N> {
-    /// No value as yet. The places that wait for one have the blank.
-    pub fn new(blank: T) -> Few<T, N>
+impl<T: Copy + Default, const N: usize> Few<T, N> {
+    /// No value as yet.
+    pub fn new() -> Few<T, N>
         ensures { result.items ≡ [] }
     {
         Few {
-            rows: [blank; N],
+            rows: [T::default(); N],
             used: 0,
         }
     }
 
-    /// These values. The places that wait for one have the blank. For the crates of this repository: it
-    /// wants room for all of them.
-    pub fn from_slice(values: &[T], blank: T) -> Few<T, N>
+    /// These values. For the crates of this repository: it wants room for all of them.
+    pub fn from_slice(values: &[T]) -> Few<T, N>
         requires { count values.now ≤ N }
         ensures { result.items ≡ values.now }
     {
-        let mut few = Few::new(blank);
+        let mut few = Few::new();
         few.extend_from_slice(values);
         few
     }
+}
 
+/// No value as yet.
+impl<T: Copy + Default, const N: usize> Default for Few<T, N> {
+    ghost is_default = { λ few. few.items ≡ [] };
+
+    fn default() -> Few<T, N> {
+        Few::new()
+    }
+}
+
+impl<T: Copy, const N: usize> Few<T, N> {
     /// The values.
     pub fn as_slice(&self) -> &[T]
         ensures is { result.now ≡ self.now.items }
         ensures few { count result.now ≤ N }
     {
+        // a part of an array of `N` places is lent only from a slice of all, here and below
         let all = &self.rows[..];
         &all[0..self.used]
     }
@@ -104,6 +115,7 @@ impl<T: Copy, const N: usize> Few<T, N> {
         requires { i < count self.old.items }
         ensures { self.new.items ≡ slice_set self.old.items i value }
     {
+        // by a slice too: in the array itself the place of `i` was not proved to be in memory (tried)
         let all = &mut self.rows[..];
         all[i] = value;
     }

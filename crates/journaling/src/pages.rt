@@ -24,7 +24,7 @@ pub fn recorded_pages(memory: &Memory, database: usize, size: u32) -> Few<u32, R
     requires small { size ≤ 4096 }
     ensures { result.items ≡ recorded (map_of memory.now.maps database) size }
 {
-    let mut pages = Few::new(0);
+    let mut pages = Few::new();
     pages.push(1);
     for page in memory.changed_pages(database) {
         if (2..=size).contains(&page) {

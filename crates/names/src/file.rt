@@ -18,8 +18,8 @@ pub fn journal_of(database: usize) -> usize
 }
 
 /// A file that goes with a list of databases.
-// For this crate alone: above it files go by number, since public calls take any number, and a file is told
-// by its number, a rule of the project (docs/REFUSALS.md).
+// For this crate alone: above it a file is told by its number, a rule of the project (docs/REFUSALS.md), and
+// a `File` would be turned into it at each call.
 #[derive(Clone, Copy)]
 pub(crate) enum File {
     /// A database: which one.
@@ -39,7 +39,7 @@ impl File {
     {
         if number < databases {
             Some(File::Database(number))
-        } else if number >= DATABASES && number < DATABASES + databases {
+        } else if (DATABASES..DATABASES + databases).contains(&number) {
             Some(File::Journal(number - DATABASES))
         } else if number == SUPER_JOURNAL {
             Some(File::SuperJournal)

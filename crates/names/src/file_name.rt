@@ -18,7 +18,7 @@ impl FileName {
         requires { count name.now + count ending.now ≤ 32 }
         ensures { result.bytes.items ≡ name.now ++ ending.now }
     {
-        let mut bytes = Few::from_slice(name, 0);
+        let mut bytes = Few::from_slice(name);
         bytes.extend_from_slice(ending);
         FileName { bytes }
     }

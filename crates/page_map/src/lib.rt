@@ -35,6 +35,7 @@ pub fn is_page(page: u32) -> bool
 
 /// Where a page begins in its file. For the crates of this repository: it wants a page that a database
 /// can have.
+// two clauses, not the word `is_page`: the callers have the two bounds apart, and their proofs give them so
 pub fn page_place(page: u32) -> u32
     requires some { 1 ≤ page }
     requires small { page ≤ 4096 }

@@ -1,5 +1,5 @@
 -- What the store of changed pages holds after a page is put in.
-use Rattle.std.proofs.Common.{◌≡◌, ℕ, ◌<◌, Bool, true, false, cond, ◌&&◌, eqb, ltb, ◌⊎◌, List, [], ◌∷◌, ◌++◌, length, get_or, set, Some, None, Option, MatchOption, IsSomeAnd, Bor, sym, refl, ap, ◌∙◌, ap₂, inl, inr}
+use Rattle.std.proofs.Common.{◌≡◌, ℕ, ◌<◌, Bool, true, false, cond, ◌&&◌, eqb, ltb, ◌⊎◌, List, [], ◌∷◌, ◌++◌, length, get_or, set, Some, None, Option, sym, refl, ap, ◌∙◌, ap₂, inl, inr}
 use Rattle.std.specs.List.{find, position, position_or_len, slice_get}
 use Rattle.std.specs.Option.{option_map, option_or}
 use Rattle.std.proofs.lemmas.List.Folds.{find_at, find-set, find_past, find-append}
@@ -93,11 +93,3 @@ module _ (rows : List ChangedPage) (d p : ℕ) (bytes : Bytes) (e q : ℕ) where
       by None false h = refl
       by (Some row) false h = refl
       by (Some row) true h = absurd (none-some row.bytes (sym (h refl)))
-
--- what is looked up of a row that was found
-pub look_mapped :
-    {Q : Bor ChangedPage → Bor Bytes → Type 0} (o : Option (Bor ChangedPage)) (r : Option (Bor Bytes)) → ((x : Bor ChangedPage) (y : Bor Bytes) → Q x y → y.now ≡ x.now.bytes) →
-    MatchOption o (r ≡ None) (λ x. IsSomeAnd r (λ y. Q x y)) → option_map (λ b. b.now) r ≡ bytes_of (option_map (λ x. x.now) o)
-look_mapped None r same e = ap (option_map (λ (b : Bor Bytes). b.now)) e
-look_mapped (Some x) (Some y) same q = ap (λ (b : Bytes). Some b) (same x y q)
-look_mapped (Some x) None same q = absurd q

@@ -1,5 +1,5 @@
 -- The machine that a transaction's memory is, over what the files hold.
-use Rattle.std.specs.Prelude.{◌≡◌, ℕ, zero, suc, ◌+◌, ◌-◌, ◌*◌, ◌≤◌, Bool, true, false, cond, not, ◌&&◌, List, [], ◌∷◌, ◌++◌, length, take, drop, replicate, Some, None, Ok, Err, Option, Result, ◌==◌, nat_le, nat_lt, slice_index, slice_index_or}
+use Rattle.std.specs.Prelude.{◌≡◌, ℕ, zero, suc, ◌+◌, ◌-◌, ◌*◌, ◌<◌, ◌≤◌, MatchResult, Bool, true, false, cond, not, ◌&&◌, List, [], ◌∷◌, ◌++◌, length, take, drop, replicate, Some, None, Ok, Err, Option, Result, ◌==◌, ◌≢◌, nat_le, nat_lt, slice_index, slice_index_or}
 use Rattle.card.specs.Meaning.{Bytes}
 use Rattle.pager.specs.declared.memory.Memory.{Memory}
 use Rattle.pager.specs.declared.changed_page.ChangedPage.{ChangedPage}
@@ -101,6 +101,10 @@ to_save m d p = nat_le 1 (length m.levels.items) && not (has (length m.levels.it
 abbrev pub NoSuch : Memory → ℕ → Refusal → Type 0
 NoSuch m d e = (m.count ≤ d) × (e ≡ NoDatabase)
 
+-- an answer about a database: there is such a database and the value is as it should be, or there is none
+abbrev pub OfKnown : {V : Type 0} → Memory → ℕ → Result V Refusal → (V → Type 0) → Type 0
+OfKnown m d r Is = MatchResult r (λ v. (d < m.count) × Is v) (NoSuch m d)
+
 -- why a write is refused
 abbrev pub write_refusal : Memory → ℕ → ℕ → ℕ → Option Refusal
 write_refusal m d p long =
@@ -130,3 +134,11 @@ saved_first m d p =
 abbrev pub refused : {V : Type 0} → Result V Refusal → Option Refusal
 refused (Ok v) = None
 refused (Err r) = Some r
+
+-- a refusal changes nothing
+abbrev pub KeptIfRefused : {V : Type 0} → Result V Refusal → Memory → Memory → Type 0
+KeptIfRefused r old new = (refused r ≢ None) → new ≡ old
+
+-- a call that is not refused takes the machine a step
+abbrev pub Takes : {V : Type 0} → Result V Refusal → Memory → Memory → (Machine → Machine) → Type 0
+Takes r old new step = refused r ≡ None → (files : ℕ → Bytes) → view files new ≡ step (view files old)

@@ -26,13 +26,7 @@ impl ChangedPages {
     pub fn new() -> ChangedPages
         ensures { result.rows.items ≡ [] }
     {
-        ChangedPages {
-            rows: Few::new(ChangedPage {
-                database: 0,
-                page: 0,
-                bytes: [0; PAGE],
-            }),
-        }
+        ChangedPages { rows: Few::new() }
     }
 
     /// Where the page stands.
@@ -49,11 +43,8 @@ impl ChangedPages {
     pub fn get(&self, database: usize, page: u32) -> Option<&[u8; PAGE]>
         ensures { option_map (λ x. x.now) result ≡ look self.now.rows.items database page }
     {
-        self.rows
-            .as_slice()
-            .iter()
-            .find(|row| row.database == database && row.page == page)
-            .map(|row| &row.bytes)
+        let row = &self.rows.as_slice()[self.find(database, page)?];
+        Some(&row.bytes)
     }
 
     /// Whether the store is full.

@@ -1,6 +1,6 @@
 // What a transaction holds in memory: sizes, the changed pages, and the savepoints with the pages
 // that they saved.
-ghost use Rattle.std.specs.Prelude.{◌≡◌, ℕ, ◌≤◌, length};
+ghost use Rattle.std.specs.Prelude.{◌≤◌, length};
 ghost use Rattle.pager.specs.Sound.{Sound};
 
 use crate::changed_pages::ChangedPages;

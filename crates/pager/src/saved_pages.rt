@@ -2,7 +2,7 @@
 ghost use Rattle.std.specs.Prelude.{◌≡◌, ◌+◌, ◌≤◌, not, ◌&&◌, [], length, ◌==◌, nat_le};
 ghost use Rattle.pager.specs.Saved.{has, passed as passed_down, added, gathered};
 
-use crate::saved_page::{SavedPage, Was};
+use crate::saved_page::SavedPage;
 use few::Few;
 
 /// The most pages that are saved at one time, by all savepoints.
@@ -34,14 +34,7 @@ impl SavedPages {
     pub fn new() -> SavedPages
         ensures { result.rows.items ≡ [] }
     {
-        SavedPages {
-            rows: Few::new(SavedPage {
-                level: 0,
-                database: 0,
-                page: 0,
-                was: Was::Absent,
-            }),
-        }
+        SavedPages { rows: Few::new() }
     }
 
     /// Whether the savepoint has saved the page.
@@ -88,7 +81,7 @@ impl SavedPages {
 
     /// The store once savepoint s and all above are removed: their pages pass to the one below,
     /// each once, or are dropped.
-    // made anew, not in place: rows change and go, and a fixed list gives none of its own away
+    // made anew, not in place: a row may change and another go, and `Few` has no `retain`
     pub fn passed_down(&self, s: usize) -> SavedPages
         requires { 1 ≤ s }
         ensures { result.rows.items ≡ gathered s [] self.now.rows.items }

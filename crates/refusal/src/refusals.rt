@@ -87,7 +87,8 @@ impl From<SetFault> for Refusal {
     }
 }
 
-// By cases here and below, since the layers' refusals are types of their own with words of their own.
+// By cases here and below, since the layers' refusals are types of their own with words of their own, and
+// the set tells one flat list of 17 refusals (docs/REFUSALS.md), so no variant holds a layer's.
 impl From<ListRefusal> for Refusal {
     ghost from_gives = { λ e r. r ≡ of_list e };
 

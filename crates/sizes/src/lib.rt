@@ -1,7 +1,7 @@
 // The sizes of a set's databases, in pages: each is at least 1 and at most 4,096.
 #![tactic(auto)]
 
-ghost use Rattle.std.specs.Prelude.{◌≡◌, ℕ, ◌<◌, ◌≤◌, [], ◌∷◌, MatchOption, slice_index};
+ghost use Rattle.std.specs.Prelude.{◌≡◌, ◌<◌, ◌≤◌, [], ◌∷◌, MatchOption, slice_index};
 ghost use Rattle.sizes.specs.Fitting.{Fitting};
 
 pub use page_map::PAGE_LIMIT;

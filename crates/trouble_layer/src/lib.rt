@@ -30,7 +30,7 @@ fn listing(numbers: &[u32]) -> Option<Few<u32, TROUBLES>>
     if numbers.len() > TROUBLES {
         return None;
     }
-    Some(Few::from_slice(numbers, 0))
+    Some(Few::from_slice(numbers))
 }
 
 impl<C> TroubleLayer<C> {

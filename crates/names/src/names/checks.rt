@@ -17,14 +17,14 @@ const FILES: usize = SUPER_JOURNAL + 1;
 fn is_short(name: &[u8]) -> bool
     ensures { result ≡ length_ok name.now }
 {
-    matches!(name.len(), 1..=NAME_LIMIT)
+    (1..=NAME_LIMIT).contains(&name.len())
 }
 
 /// Whether a byte may stand in a name.
 fn is_printable(b: u8) -> bool
     ensures { result ≡ printable b }
 {
-    matches!(b, b' '..=b'~')
+    (b' '..=b'~').contains(&b)
 }
 
 /// Whether each byte of a name is printable.
@@ -56,9 +56,9 @@ impl NameList {
         requires short { Each length_ok (texts list.now) }
         ensures { names_in result ≡ texts list.now }
     {
-        let mut names = Few::new(Few::new(0));
+        let mut names = Few::new();
         for name in list {
-            names.push(Few::from_slice(name, 0));
+            names.push(Few::from_slice(name));
         }
         NameList { names }
     }
@@ -93,7 +93,7 @@ impl NameList {
 pub fn checked(list: &[&[u8]]) -> Result<Names, ListRefusal>
     ensures { MatchResult result (λ n. Checked (texts list.now) (names_of n)) (λ e. Refused e (texts list.now)) }
 {
-    if list.len() == 0 || list.len() > DATABASES {
+    if !(1..=DATABASES).contains(&list.len()) {
         return Err(ListRefusal::Count);
     }
     if let Some(i) = first_long(list) {

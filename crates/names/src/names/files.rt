@@ -9,10 +9,10 @@ use crate::file_name::FileName;
 use crate::names::{NameList, Names};
 
 /// What the name of a journal ends with.
-const JOURNAL_ENDING: [u8; 8] = *b"-journal";
+const JOURNAL_ENDING: &[u8] = b"-journal";
 
 /// What the name of a super-journal ends with.
-const SUPER_ENDING: [u8; 3] = *b"-mj";
+const SUPER_ENDING: &[u8] = b"-mj";
 
 impl NameList {
     /// The name of the file of that number, if the list has such a file.
@@ -22,8 +22,8 @@ impl NameList {
         let names = self.names.as_slice();
         match File::numbered(names.len(), number)? {
             File::Database(i) => Some(FileName::ending(names[i].as_slice(), &[])),
-            File::Journal(i) => Some(FileName::ending(names[i].as_slice(), &JOURNAL_ENDING)),
-            File::SuperJournal => Some(FileName::ending(names[0].as_slice(), &SUPER_ENDING)),
+            File::Journal(i) => Some(FileName::ending(names[i].as_slice(), JOURNAL_ENDING)),
+            File::SuperJournal => Some(FileName::ending(names[0].as_slice(), SUPER_ENDING)),
         }
     }
 }
@@ -48,7 +48,7 @@ impl Names {
         ensures { MatchOption result (how_many self.now ≤ i) (λ f. (i < how_many self.now) × (f.bytes.items ≡ listed (names_of self.now) i ++ journal_ending)) }
     {
         let name = self.list.names.as_slice().get(i)?;
-        Some(FileName::ending(name.as_slice(), &JOURNAL_ENDING))
+        Some(FileName::ending(name.as_slice(), JOURNAL_ENDING))
     }
 
     /// The name of the file of that number: 0 to 3 a database, 4 to 7 its journal, 8 the super-journal.

@@ -1,5 +1,5 @@
 // Making a memory, clearing it, and looking at it.
-ghost use Rattle.std.specs.Prelude.{◌≡◌, ℕ, ◌*◌, ◌<◌, ◌≤◌, min, true, List, [], All, length, is_some, Some, None, MatchOption, MatchResult, slice_index};
+ghost use Rattle.std.specs.Prelude.{◌≡◌, ℕ, ◌*◌, ◌<◌, ◌≤◌, min, true, List, [], All, length, is_some, MatchOption, MatchResult, slice_index};
 ghost use Rattle.std.specs.Option.{option_map};
 ghost use Rattle.pager.specs.Changed.{look};
 ghost use Rattle.pager.specs.Machine.{cleared};
@@ -7,7 +7,7 @@ ghost use Rattle.page_map.specs.Listed.{above};
 ghost use Rattle.page_map.specs.Walks.{left};
 ghost use Rattle.page_map.specs.Sets.{counted, NoneAbove, NextAbove, VisitLaw};
 ghost use Rattle.pager.specs.Sound.{map_of};
-ghost use Rattle.pager.specs.View.{view, fields, Stored, NoSuch};
+ghost use Rattle.pager.specs.View.{view, fields, Stored, NoSuch, OfKnown};
 
 use crate::changed_pages::ChangedPages;
 use crate::memory::Memory;
@@ -25,14 +25,13 @@ impl Memory {
         ensures empty { (result.changed.rows.items ≡ []) × (result.saved.rows.items ≡ []) }
         ensures view { (files : ℕ → List ℕ) → Stored files sizes → view files result ≡ cleared files }
     {
-        let levels = Few::new([0; DATABASES]);
         Memory {
             count: count.min(DATABASES),
             sizes,
             maps: [PageMap::new(); DATABASES],
             changed: ChangedPages::new(),
             saved: SavedPages::new(),
-            levels,
+            levels: Few::new(),
         }
     }
 
@@ -66,7 +65,7 @@ impl Memory {
 
     /// How many pages a database has.
     pub fn size(&self, database: usize) -> Result<u32, Refusal>
-        ensures { MatchResult result (λ n. (database < self.now.count) × (n ≡ slice_index self.now.sizes database)) (NoSuch self.now database) }
+        ensures { OfKnown self.now database result (λ n. n ≡ slice_index self.now.sizes database) }
     {
         self.known(database)?;
         Ok(self.sizes[database])
@@ -81,7 +80,7 @@ impl Memory {
 
     /// How many pages of a database are changed.
     pub fn changed_count(&self, database: usize) -> Result<u32, Refusal>
-        ensures { MatchResult result (λ n. (database < self.now.count) × (n ≡ counted (map_of self.now.maps database) 4096)) (NoSuch self.now database) }
+        ensures { OfKnown self.now database result (λ n. n ≡ counted (map_of self.now.maps database) 4096) }
     {
         self.known(database)?;
         Ok(self.maps[database].count())
@@ -90,7 +89,7 @@ impl Memory {
     /// The least changed page of a database above this one. Asked from 0 on, and then from each
     /// answer, it visits each changed page once and no other, in ascending order.
     pub fn next_changed(&self, database: usize, page: u32) -> Result<Option<u32>, Refusal>
-        ensures next { MatchResult result (λ o. (database < self.now.count) × MatchOption o (NoneAbove (map_of self.now.maps database) page) (λ p. NextAbove (map_of self.now.maps database) page p)) (NoSuch self.now database) }
+        ensures next { OfKnown self.now database result (λ o. MatchOption o (NoneAbove (map_of self.now.maps database) page) (λ p. NextAbove (map_of self.now.maps database) page p)) }
         ensures visit { VisitLaw (map_of self.now.maps database) }
     {
         self.known(database)?;

@@ -1,10 +1,10 @@
 // Savepoints: pushing one, and releasing one with all above it.
-ghost use Rattle.std.specs.Prelude.{◌≡◌, ℕ, ◌+◌, ◌&&◌, leb, List, [], length, IfOk, if◌then◌else◌, Some, None, ◌≢◌, nat_eq, nat_le};
+ghost use Rattle.std.specs.Prelude.{◌≡◌, ◌+◌, ◌&&◌, leb, [], length, IfOk, if◌then◌else◌, Some, None, nat_eq, nat_le};
 ghost use Rattle.pager.specs.declared.refusal.Refusal.TheVariants.{SavepointsFull, NoSavepoint};
 ghost use Rattle.pager.specs.Laws.{BackLaw, ReleaseLaw};
 ghost use Rattle.pager.specs.Machine.{pushed, released};
 ghost use Rattle.pager.specs.Saved.{gathered};
-ghost use Rattle.pager.specs.View.{view, fields, refused};
+ghost use Rattle.pager.specs.View.{fields, refused, KeptIfRefused, Takes};
 
 use crate::memory::Memory;
 use crate::refusal::Refusal;
@@ -15,10 +15,10 @@ impl Memory {
     /// and released since.
     pub fn push(&mut self) -> Result<usize, Refusal>
         ensures refusal { refused result ≡ (if nat_eq (length self.old.levels.items) 8 then Some SavepointsFull else None) }
-        ensures kept { (refused result ≢ None) → self.new ≡ self.old }
+        ensures kept { KeptIfRefused result self.old self.new }
         ensures count { self.new.count ≡ self.old.count }
         ensures number { IfOk result (λ k. (k ≡ length self.old.levels.items + 1) × (length self.new.levels.items ≡ k)) }
-        ensures done { refused result ≡ None → (files : ℕ → List ℕ) → view files self.new ≡ pushed (view files self.old) }
+        ensures done { Takes result self.old self.new pushed }
         ensures stores { (self.new.changed ≡ self.old.changed) × (self.new.saved ≡ self.old.saved) }
         ensures back { BackLaw }
     {
@@ -33,16 +33,16 @@ impl Memory {
     fn stands(&self, s: usize) -> bool
         ensures { result ≡ (nat_le 1 s && nat_le s (length self.now.levels.items)) }
     {
-        s >= 1 && s <= self.levels.len()
+        (1..=self.levels.len()).contains(&s)
     }
 
     /// Removes savepoint s and all above it. Their saved pages pass to the one below, each once, or
     /// are dropped. Nothing that is held changes.
     pub fn release(&mut self, s: usize) -> Result<(), Refusal>
         ensures refusal { refused result ≡ (if leb 1 s && nat_le s (length self.old.levels.items) then None else Some NoSavepoint) }
-        ensures kept { (refused result ≢ None) → self.new ≡ self.old }
+        ensures kept { KeptIfRefused result self.old self.new }
         ensures count { self.new.count ≡ self.old.count }
-        ensures done { refused result ≡ None → (files : ℕ → List ℕ) → view files self.new ≡ released s (view files self.old) }
+        ensures done { Takes result self.old self.new (released s) }
         ensures saved { refused result ≡ None → (fields self.new).saved ≡ gathered s [] (fields self.old).saved }
         ensures changed { self.new.changed ≡ self.old.changed }
         ensures law { ReleaseLaw }

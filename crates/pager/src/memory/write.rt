@@ -1,11 +1,10 @@
 // Writing a page.
-ghost use Rattle.std.specs.Prelude.{◌≡◌, ℕ, ◌+◌, ◌<◌, ◌≤◌, Bool, true, false, cond, not, ◌&&◌, List, length as count_of, is_some, IfOk, Some, None, Ok, Err, ◌==◌, ◌≢◌, nat_le, slice_index};
-ghost use Rattle.std.specs.Option.{option_map};
+ghost use Rattle.std.specs.Prelude.{◌≡◌, ◌+◌, ◌<◌, cond, not, ◌&&◌, length as count_of, IfOk, Some, None, Ok, Err, ◌==◌, nat_le, slice_index};
 ghost use Rattle.pager.specs.Changed.{look};
 ghost use Rattle.pager.specs.Machine.{written};
 ghost use Rattle.page_map.specs.Sets.{total};
 ghost use Rattle.pager.specs.Sound.{map_of};
-ghost use Rattle.pager.specs.View.{view, fields, page_allowed, to_save, write_refusal, was_of, saved_first, refused};
+ghost use Rattle.pager.specs.View.{fields, page_allowed, to_save, write_refusal, was_of, saved_first, refused, KeptIfRefused, Takes};
 
 use crate::memory::Memory;
 use crate::refusal::Refusal;
@@ -76,9 +75,9 @@ impl Memory {
     /// saves the page first, unless it has it already. A refusal changes nothing.
     pub fn write(&mut self, database: usize, page: u32, bytes: &[u8]) -> Result<(), Refusal>
         ensures refusal { refused result ≡ write_refusal self.old database page (count_of bytes.now) }
-        ensures kept { (refused result ≢ None) → self.new ≡ self.old }
+        ensures kept { KeptIfRefused result self.old self.new }
         ensures count { self.new.count ≡ self.old.count }
-        ensures done { refused result ≡ None → (files : ℕ → List ℕ) → view files self.new ≡ written database page bytes.now (view files self.old) }
+        ensures done { Takes result self.old self.new (written database page bytes.now) }
         ensures used { refused result ≡ None → count_of self.new.changed.rows.items ≡ cond (map_of self.old.maps database page) (count_of self.old.changed.rows.items) (count_of self.old.changed.rows.items + 1) }
         ensures saved { refused result ≡ None → (fields self.new).saved ≡ saved_first self.old database page }
     {

@@ -1,15 +1,10 @@
-use Rattle.std.proofs.Common.{rules, ap, ◌∙◌, Option}
-use borrow.Author.Tests.{tests}
+use Rattle.std.proofs.Common.{sym, ap, ◌∙◌}
 use Rattle.std.specs.Option.{option_map}
-use Rattle.std.proofs.lemmas.Iterator.{YieldsList-from_slice}
-use Rattle.std.proofs.lemmas.Iterator.Search.{find_from_yields_List}
-use Rattle.pager.specs.declared.changed_page.ChangedPage.{ChangedPage}
-use Rattle.pager.specs.Changed.{look, is_row}
-use Rattle.pager.proofs.Looks.{look_mapped}
+use Rattle.pager.proofs.Looks.{look_none, look_found}
 use Rattle.pager.proofs.changed_pages.ChangedPages.get.Goals as goal
 
+pub returns-in_err-row : goal.returns-in_err-row
+returns-in_err-row c = ap (option_map (λ x. x.now)) c.from_residual.ensures ∙ sym (look_none c.args.self.now.rows.items c.args.database c.args.page (sym c.find.ensures ∙ c.in_err-row.was))
+
 pub returns : goal.returns
-unfolding look
-returns c =
-    let found = find_from_yields_List (is_row c.args.database c.args.page) _ _ c.find.result c.find.ensures.ran (YieldsList-from_slice c.args.self.now.rows.items cc) (λ x b q k. search (rules, tests)) in
-    look_mapped c.find.result c.map.result (λ x y h. search rules) c.map.ensures.cases ∙ ap (λ (o : Option ChangedPage). option_map (λ (row : ChangedPage). row.bytes) o) found
+returns c = rw c.as_slice.ensures.is (sym (look_found c.args.self.now.rows.items c.args.database c.args.page c.in_ok-row.field-0 (sym c.find.ensures ∙ c.in_ok-row.was)))

@@ -8,7 +8,7 @@ pub invariant_of-result : goal.invariant_of-result
 invariant_of-result c =
     let maps = replicate 4 c.new.result in
     let fresh = sound_fresh maps (maps_empty c.new.result c.new.ensures) in
-    record { few = omega arith; low = omega (arith, ap length c.new-levels.ensures); sound = ∣ rw (c.new-2.ensures, c.new-3.ensures, c.new-levels.ensures) fresh ∣₁ }
+    record { few = omega arith; low = omega (arith, ap length c.new-4.ensures); sound = ∣ rw (c.new-2.ensures, c.new-3.ensures, c.new-4.ensures) fresh ∣₁ }
 
 pub returns : goal.returns
 unfolding stack
@@ -22,6 +22,6 @@ returns c =
           let h =
           ap (λ (l : List ChangedPage). held_now files (record { sizes = c.args.sizes; maps = maps; changed = l; saved = []; level_sizes = [] })) c.new-2.ensures
           ∙ view_fresh maps (maps_empty c.new.result c.new.ensures) files c.args.sizes [] stored in
-          let s = ap (λ (k : ℕ). stack files (record { sizes = c.args.sizes; maps = maps; changed = c.new-2.result.rows.items; saved = c.new-3.result.rows.items; level_sizes = c.new-levels.result.items }) k) (ap length c.new-levels.ensures) in
+          let s = ap (λ (k : ℕ). stack files (record { sizes = c.args.sizes; maps = maps; changed = c.new-2.result.rows.items; saved = c.new-3.result.rows.items; level_sizes = c.new-4.result.items }) k) (ap length c.new-4.ensures) in
           λ i. record { held = h i; savepoints = s i };
     }
