@@ -69,9 +69,9 @@ fn journal_length(size: u32, pages: &[u32], name: Option<&[u8]>) -> Option<usize
     Some(record_place(pages.len() as u32) + super_length(name))
 }
 
-// The answer is no slice of the buffer. Tried: of a buffer that an answer lends a part of, a proof knows nothing
-// afterwards, and the clause says what the buffer holds.
 /// Fills the buffer with a journal of count 0 around the pages that lie in it, and tells the journal's length.
+// The answer is no slice of the buffer. Tried: of a buffer that an answer lends a part of, a proof knows nothing
+// afterwards, and the clause says what the buffer holds, and that the rest of the buffer is as it was.
 pub fn fill_journal(
     buffer: &mut [u8],
     nonce: u32,

@@ -53,8 +53,8 @@ pub fn fill_header(buffer: &mut [u8], nonce: u32, size: u32)
     put_number(buffer, 24, PAGE as u32);
 }
 
-/// Where what is put into a buffer ends, if there is such an end, and room up to it. There is none of what is out of
-/// the limits.
+/// Where what is put into a buffer ends, if there is such an end, and room up to it. `None` stands for a part that is
+/// out of the limits.
 pub fn room(buffer: &[u8], end: Option<usize>) -> Result<usize, Refusal>
     ensures { MatchResult result (λ n. (end ≡ Some n) × (n ≤ count_bytes buffer.now)) (NoRoom (count_bytes buffer.now) end) }
 {

@@ -65,9 +65,9 @@ fn fill_names(buffer: &mut [u8], names: &[&[u8]])
     }
 }
 
-// The answer is no slice of the buffer. Tried: of a buffer that an answer lends a part of, a proof knows nothing
-// afterwards, and the clause says what the buffer holds.
 /// Fills the buffer with the super-journal of the names, and tells its length.
+// The answer is no slice of the buffer. Tried: of a buffer that an answer lends a part of, a proof knows nothing
+// afterwards, and the clause says what the buffer holds, and that the rest of the buffer is as it was.
 pub fn put_names(buffer: &mut [u8], names: &[&[u8]]) -> Result<usize, Refusal>
     ensures { Named buffer.old (texts names.now) result buffer.new }
 {
