@@ -30,6 +30,7 @@ fn names_length(names: &[&[u8]]) -> usize
 }
 
 /// How long the super-journal of the names is; none if it cannot have them.
+// No `then`: of what a closure that calls our own functions gives, the proof learns nothing (tried in `journal_writer`).
 fn super_length(names: &[&[u8]]) -> Option<usize>
     ensures { MatchOption result (LawfulNames (texts names.now) → ⊥) (λ n. LawfulNames (texts names.now) × (n ≡ count_of (names_bytes (texts names.now)))) }
 {
