@@ -26,7 +26,7 @@ pub fn read_names(bytes: &[u8]) -> Option<SuperNames<'_>>
     ensures { MatchOption result ((ns : List Name) → LawfulNames ns → bytes.now ≢ names_bytes ns) (λ s. LawfulNames (texts s.items) × (bytes.now ≡ names_bytes (texts s.items)) × (count_of s.items ≤ 4)) }
 {
     let front = bytes.strip_suffix(&[0])?;
-    let mut names = Few::new(&front[..0]);
+    let mut names = Few::new(&front[..0]); // a place that waits for a name has none of the bytes
     for name in front.split(|byte| *byte == 0) {
         if names.is_full() || !is_length(name.len()) {
             return None;
