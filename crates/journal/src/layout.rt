@@ -34,6 +34,7 @@ pub fn number(bytes: &[u8], place: usize) -> u32
 }
 
 /// The checksum of a page under a nonce. For the crates of this repository: it wants a whole page.
+// A slice, not an array: its callers cut the page out of a longer slice, and each would have to unwrap an array.
 pub fn checksum(nonce: u32, page: &[u8]) -> u32
     requires { count page.now ≡ 512 }
     ensures { result ≡ checksum_of nonce page.now }

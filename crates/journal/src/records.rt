@@ -5,6 +5,7 @@ ghost use Rattle.journal.specs.Fronts.{Reads, FirstWrong};
 
 use crate::header::Header;
 use crate::layout::{RECORD, checksum, number, record_place};
+use page_map::PAGE;
 
 /// The bytes of a journal, which have all the page records that its header counts.
 #[derive(Drop)]
@@ -37,10 +38,10 @@ impl Records<'_> {
         ensures { result ≡ record_right self.now.bytes.now index }
     {
         let place = record_place(index);
-        let sum = checksum(self.header.nonce, &self.bytes[place + 4..place + 516]);
+        let sum = checksum(self.header.nonce, &self.bytes[place + 4..place + 4 + PAGE]);
         self.follows(index)
             && number(self.bytes, place) <= self.header.size
-            && number(self.bytes, place + 516) == sum
+            && number(self.bytes, place + 4 + PAGE) == sum
     }
 
     /// The first wrong page record, by its index from 0; none if all are right.

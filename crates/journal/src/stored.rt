@@ -25,9 +25,9 @@ fn judge_front(front: &[u8], length: usize) -> Verdict
     Verdict::Damaged { record: 0 }
 }
 
+/// Judges the file of that name as a journal; none if it is absent. The buffer then has the journal's bytes.
 // The verdict comes alone, and the bytes stay in the caller's buffer. Tried: of a buffer that an answer lends a part
 // of, a proof knows nothing afterwards, and the clause `told` says what the buffer holds.
-/// Judges the file of that name as a journal; none if it is absent. The buffer then has the journal's bytes.
 pub fn judge_file<C: Card>(
     card: &mut C,
     name: &[u8],

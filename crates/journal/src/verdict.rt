@@ -14,10 +14,10 @@ pub struct Span {
     pub length: usize,
 }
 
-// Apart from the bytes: the parts are copied out of the call that reads the bytes into its caller's buffer, and a type
-// of both would serve one loop, in `settling`, alone.
 /// The parts of a sound journal; its page records are read in place. The numbers stand here and not as a header
 /// in a field: callers name each, and `sound.header.count` would be no plainer.
+// Apart from the bytes: parts that borrow the bytes could not come out of `judge_file`, for the reason that stands
+// there. `survey` and `settling` have the two together again, at one place each, by `journal_in`.
 #[derive(Clone, Copy, PartialEq, Eq, Debug)]
 pub struct Sound {
     pub count: u32,

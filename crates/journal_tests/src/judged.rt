@@ -92,9 +92,10 @@ fn a_super_journal_is_read_back(rt: HostRuntime) -> Result<(), Fail> {
     );
     let names = read_names(&buffer[0..20]).ok_or("no super-journal")?;
     assert_eq!(rt; names.len(), 2);
+    assert_eq!(rt; names.as_slice()[0], b"a-journal");
+    assert_eq!(rt; names.as_slice()[1], b"b-journal");
     // the second begins past the first and its zero byte
-    assert_eq!(rt; names.as_slice()[0].len() + 1, 10);
-    assert_eq!(rt; names.as_slice()[1].len(), 9);
+    assert_eq!(rt; names.as_slice()[1], &buffer[10..19]);
     assert!(rt; read_names(&buffer[0..19]).is_none());
     assert_eq!(rt; put_names(&mut buffer, &[b"a\0b"]), Err(Refusal::Limit));
     Ok(())

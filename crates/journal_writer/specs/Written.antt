@@ -1,6 +1,7 @@
 -- What a buffer holds after a part of a journal was put into it, and why one is not put.
 use Rattle.std.specs.Prelude.{◌≡◌, ℕ, suc, ◌+◌, ◌<◌, ◌≤◌, Bool, true, false, ◌&&◌, List, [], ◌∷◌, length, Some, None, Ok, Err, Option, Result, ◌==◌, nat_le, nat_lt, slice_index}
 use Rattle.std.specs.Borrow.{Bor}
+use Rattle.std.specs.Option.{is_some, unwrap_or}
 use Rattle.card.specs.Meaning.{Bytes, Name}
 use Rattle.card.specs.Calls.{overwrite, name_ok}
 use Rattle.journal.specs.Format.{PageRecord, Journal, LawfulJournal, encode, super_bytes, page_size, page_limit, record_limit}
@@ -22,8 +23,7 @@ NoRoom size end Room = (n : ℕ) × (end ≡ Some n) × (size < n)
 
 -- the same of work that ends at a place, of which there is none out of the limits
 abbrev pub PutUpTo : Bytes → Option ℕ → Type 0 → Result (Unit {0}) Refusal → Bytes → Type 0
-PutUpTo old end Done (Ok u) new = (n : ℕ) × (end ≡ Some n) × (n ≤ length old) × Done
-PutUpTo old end Done (Err e) new = NoRoom (length old) end e × (new ≡ old)
+PutUpTo old end Done r new = PutTo old (unwrap_or end 0) (is_some end) Done r new
 
 -- the same of bytes put at a place
 abbrev pub Put : Bytes → ℕ → ℕ → Bytes → Bool → Result (Unit {0}) Refusal → Bytes → Type 0

@@ -34,6 +34,8 @@ fn name_holds(name: Option<&[u8]>) -> bool
 }
 
 /// Whether a journal may be made with the size, the pages and the name.
+// The three go by themselves, here and below: the public call has them so, and a struct would add a type and its
+// making for two calls inside this file.
 fn is_made(size: u32, pages: &[u32], name: Option<&[u8]>) -> bool
     ensures { result ≡ made_lawful size pages.now (told name.entry) }
 {
@@ -60,6 +62,8 @@ fn seal_records(buffer: &mut [u8], nonce: u32, pages: &[u32])
 }
 
 /// How long the journal of the size, the pages and the name is; none if it may not be made.
+// No `then`. Tried: of what a closure that calls our own functions gives, the proof learns nothing, unless the
+// closure has a clause of its own, which would say the sum once more.
 fn journal_length(size: u32, pages: &[u32], name: Option<&[u8]>) -> Option<usize>
     ensures { result ≡ then_some (made_lawful size pages.now (told name.entry)) (place_of (count_bytes pages.now) + count_bytes (super_bytes (told name.entry))) }
 {
@@ -69,9 +73,9 @@ fn journal_length(size: u32, pages: &[u32], name: Option<&[u8]>) -> Option<usize
     Some(record_place(pages.len() as u32) + super_length(name))
 }
 
-// The answer is no slice of the buffer. Tried: of a buffer that an answer lends a part of, a proof knows nothing
-// afterwards, and the clause says what the buffer holds.
 /// Fills the buffer with a journal of count 0 around the pages that lie in it, and tells the journal's length.
+// The answer is no slice of the buffer. Tried: of a buffer that an answer lends a part of, a proof knows nothing
+// afterwards, and the clause says what the buffer holds, and that the rest of the buffer is as it was.
 pub fn fill_journal(
     buffer: &mut [u8],
     nonce: u32,

@@ -53,8 +53,8 @@ pub fn fill_header(buffer: &mut [u8], nonce: u32, size: u32)
     put_number(buffer, 24, PAGE as u32);
 }
 
-/// Where what is put into a buffer ends, if there is such an end, and room up to it. There is none of what is out of
-/// the limits.
+/// Where what is put into a buffer ends, if there is such an end, and room up to it. `None` stands for a part that is
+/// out of the limits.
 pub fn room(buffer: &[u8], end: Option<usize>) -> Result<usize, Refusal>
     ensures { MatchResult result (λ n. (end ≡ Some n) × (n ≤ count_bytes buffer.now)) (NoRoom (count_bytes buffer.now) end) }
 {
@@ -103,12 +103,13 @@ pub fn seal_record(buffer: &mut [u8], index: u32, nonce: u32, page: u32)
     ensures { buffer.new ≡ overwrite buffer.old (place_of index) (record_bytes nonce (record { page = page; bytes = page_bytes buffer.old index })) }
 {
     let place = record_place(index);
-    let sum = checksum(nonce, &buffer[place + 4..place + 516]);
+    let sum = checksum(nonce, &buffer[place + 4..place + 4 + PAGE]);
     put_number(buffer, place, page);
-    put_number(buffer, place + 516, sum);
+    put_number(buffer, place + 4 + PAGE, sum);
 }
 
 /// Puts the record of a page at its place.
+// The page is a slice: the public call that has tested its length takes one, and would have to unwrap an array.
 fn fill_record(buffer: &mut [u8], index: u32, nonce: u32, page: u32, bytes: &[u8])
     requires room { 512 + 520 * index + 520 ≤ count_bytes buffer.old }
     requires whole { count_bytes bytes.now ≡ 512 }
@@ -120,6 +121,7 @@ fn fill_record(buffer: &mut [u8], index: u32, nonce: u32, page: u32, bytes: &[u8
 }
 
 /// Puts the record of a page at its place, by its index from 0.
+// Five parameters: a record is no value anywhere, and a struct for two calls would only name them again.
 pub fn put_record(
     buffer: &mut [u8],
     index: u32,

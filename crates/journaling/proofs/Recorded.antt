@@ -1,8 +1,7 @@
 -- The pages that a journal records: gathered one by one, and at most 33.
-use Rattle.std.proofs.Common.{◌≡◌, ℕ, zero, suc, ◌+◌, ◌-◌, ◌<◌, ◌≤◌, Bool, true, false, cond, ◌&&◌, leb, ⊎_elim, List, [], ◌∷◌, ◌++◌, length, refl, sym, ap, ◌∙◌, arith, length-append}
+use Rattle.std.proofs.Common.{◌≡◌, ℕ, zero, suc, ◌+◌, ◌-◌, ◌<◌, ◌≤◌, Bool, true, false, cond, ◌&&◌, leb, ⊎_elim, List, [], ◌∷◌, length, refl, sym, ap, ◌∙◌, arith}
 use Rattle.std.specs.List.{filter}
 use Rattle.std.proofs.lemmas.Bool.{cases_lt, cond-true, cond-false, le-leb, lt-leb, and_from, and_right}
-use Rattle.std.proofs.lemmas.List.Sums.{length-filter, count_by-le-length}
 use Rattle.page_map.specs.Sets.{PageSet, counted}
 use Rattle.page_map.specs.Listed.{above}
 use Rattle.page_map.proofs.Listed.{above_counted, above_length, above_within}
@@ -63,11 +62,6 @@ recorded_later s size some small = ap (λ (l : List ℕ). 1 ∷ l) (by (s 1) ∙
     by : (b : Bool) → filter (is_later size) (cond b (1 ∷ above s 1 4095) (above s 1 4095)) ≡ filter (is_later size) (above s 1 4095)
     by false = refl
     by true = refl
-
--- a walk of at most 32 pages leaves room for each
-pub room : (size : ℕ) (pages walked : List ℕ) (p : ℕ) (rest all : List ℕ) → pages ≡ 1 ∷ filter (is_later size) walked → all ≡ walked ++ p ∷ rest → length all ≤ 32 → length pages < 33
-room size pages walked p rest all e parts few =
-    omega (arith, ap length e, length-filter (is_later size) walked, count_by-le-length (is_later size) walked, ap length parts, length-append walked (p ∷ rest))
 
 -- each is a page that a database can have
 pub recorded_ok : (s : PageSet) (size : ℕ) → 1 ≤ size → size ≤ 4096 → PagesOk (recorded s size)

@@ -3,6 +3,8 @@
 //
 // The specs of this crate have the whole plan of a commit, which the crates `page_writer` and `commit`
 // carry out with it.
+//
+// `as` stands where a u32 and a usize meet, since there is no `From` between them.
 #![tactic(auto)]
 
 mod journals;

@@ -15,6 +15,8 @@ use refusal::{SetFault, Step};
 use steps::Site;
 
 /// Reads a page of a database into the place of the record of that index, from 0.
+// The page, from 1 to 4,096, is a number here as in the memory's list and in a record; a type for it would be undone
+// at each. Six parameters: one call makes this one, inside a loop, and a struct would be made for that call alone.
 fn read_original<C: Card>(
     card: &mut C,
     name: &[u8],
@@ -40,6 +42,7 @@ fn read_original<C: Card>(
 }
 
 /// Reads the originals of the pages into the places of their records.
+// Five parameters: a file's name and its number go apart, since the card calls it by name and a fault tells its number.
 pub fn read_originals<C: Card>(
     card: &mut C,
     name: &[u8],

@@ -19,6 +19,7 @@ pub fn is_changed(memory: &Memory, database: usize) -> bool
 
 /// The pages that the journal of a database records, in the order of its records: page 1, and the changed
 /// pages within its size.
+// The size, from 1 to 4,096, is a number here, as the table of sizes gives it and a journal's header tells it.
 pub fn recorded_pages(memory: &Memory, database: usize, size: u32) -> Few<u32, RECORDS>
     requires some { 1 ≤ size }
     requires small { size ≤ 4096 }
@@ -26,10 +27,11 @@ pub fn recorded_pages(memory: &Memory, database: usize, size: u32) -> Few<u32, R
 {
     let mut pages = Few::new();
     pages.push(1);
-    for page in memory.changed_pages(database) {
-        if (2..=size).contains(&page) {
-            pages.push(page);
-        }
+    for page in memory
+        .changed_pages(database)
+        .filter(|page| (2..=size).contains(page))
+    {
+        pages.push(page);
     }
     pages
 }

@@ -30,6 +30,7 @@ fn names_length(names: &[&[u8]]) -> usize
 }
 
 /// How long the super-journal of the names is; none if it cannot have them.
+// No `then`: of what a closure that calls our own functions gives, the proof learns nothing (tried in `journal_writer`).
 fn super_length(names: &[&[u8]]) -> Option<usize>
     ensures { MatchOption result (LawfulNames (texts names.now) → ⊥) (λ n. LawfulNames (texts names.now) × (n ≡ count_of (names_bytes (texts names.now)))) }
 {
@@ -65,9 +66,9 @@ fn fill_names(buffer: &mut [u8], names: &[&[u8]])
     }
 }
 
-// The answer is no slice of the buffer. Tried: of a buffer that an answer lends a part of, a proof knows nothing
-// afterwards, and the clause says what the buffer holds.
 /// Fills the buffer with the super-journal of the names, and tells its length.
+// The answer is no slice of the buffer. Tried: of a buffer that an answer lends a part of, a proof knows nothing
+// afterwards, and the clause says what the buffer holds, and that the rest of the buffer is as it was.
 pub fn put_names(buffer: &mut [u8], names: &[&[u8]]) -> Result<usize, Refusal>
     ensures { Named buffer.old (texts names.now) result buffer.new }
 {

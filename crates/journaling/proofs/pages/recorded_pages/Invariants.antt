@@ -1,8 +1,6 @@
 use Rattle.std.proofs.Common.{◌≡◌, ◌∷◌}
-use Rattle.std.specs.List.{filter}
-use Rattle.journaling.proofs.Recorded.{is_later}
 use Rattle.journaling.proofs.pages.recorded_pages.Given as goal
 
 abbrev pub invariant-loop-page : goal.invariant-loop-page
 invariant-loop-page l =
-    goal.iterator-loop-page.can_next l.page-iterator × (goal.iterator-loop-page.is_finite l.page-iterator × (l.pages.items ≡ 1 ∷ filter (is_later l.size) l.yielded))
+    goal.iterator-loop-page.can_next l.page-iterator × (goal.iterator-loop-page.is_finite l.page-iterator × (l.pages.items ≡ 1 ∷ l.yielded))
