@@ -43,6 +43,7 @@ fn delete_super<C: Card>(card: &mut C, names: &Names) -> Result<(), SetFault>
 }
 
 /// Restores each database by what was found of its journal.
+// No `Few`, but four places cut at the number of databases: a report has four, and what was found is one.
 fn restore_all<C: Card>(
     card: &mut C,
     names: &Names,
