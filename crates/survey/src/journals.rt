@@ -52,6 +52,7 @@ fn look_at_super<C: Card>(
 /// Judges the journal of a database.
 // A database goes by its number, as in the calls and in the faults. That it is below four is what
 // `journal_of` wants; a type for such numbers would be taken apart again at each site and each name.
+#[tactic(auto, using(set_files::proofs::Looks::looked_judged))]
 fn judge_journal<C: Card>(
     card: &mut C,
     names: &Names,
