@@ -11,6 +11,8 @@
 //   R4  each database must be 1 to 4,096 whole pages long.
 // A fault of the card ends it at once; it can be run again from the start. The crate `survey` has R1,
 // `settling` has R2 and R3; R4 is here.
+//
+// `as` stands where a u32 and a usize meet, since there is no `From` between them.
 #![tactic(auto)]
 
 mod lengths;

@@ -1,6 +1,7 @@
 // Calls of the card on the files of a set, by their numbers: 0 to 3 a database, 4 to 7 its journal, 8 the super-journal.
 // The card and the names go side by side here and above: in one struct, lent as a whole, each function would
-// also have to promise that the names stay as they are.
+// also have to promise that the names stay as they are. A file goes by its number, as `names` looks it up
+// and as a fault tells it; step and file apart, since a `Site` would be taken apart again for the name.
 ghost use Rattle.std.specs.Prelude.{[], ◌∷◌, Some};
 ghost use Rattle.card.specs.Calls.Op.{length_of, delete as deletes};
 ghost use Rattle.journal.specs.OnCard.{judge_acts};

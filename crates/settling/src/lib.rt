@@ -2,6 +2,8 @@
 //
 // For each database in order a hot journal's pages are written back, the database gets its first size
 // and is made safe; then the journal is deleted, hot or spent. The super-journal goes last.
+//
+// `as` stands where a u32 and a usize meet, since there is no `From` between them.
 #![tactic(auto)]
 
 mod playback;

@@ -65,6 +65,7 @@ fn write_records<C: Card>(
 }
 
 /// Gives a database its first size, makes it safe, and deletes its journal.
+// A size up to 4,096 is asked for by a clause and no type: a sound journal's parts tell it as a number.
 fn finish<C: Card>(card: &mut C, names: &Names, d: usize, size: u32) -> Result<(), SetFault>
     requires few { d < 4 }
     requires small { size ≤ 4096 }

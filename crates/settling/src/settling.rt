@@ -43,6 +43,8 @@ fn delete_super<C: Card>(card: &mut C, names: &Names) -> Result<(), SetFault>
 }
 
 /// Restores each database by what was found of its journal.
+// No `Few`, but four places cut at the number of databases: what was found goes whole into the report, which
+// has four.
 fn restore_all<C: Card>(
     card: &mut C,
     names: &Names,

@@ -20,6 +20,7 @@ use Rattle.steps.specs.Tasks.{task, Went, ToldBytes}
 use Rattle.store.specs.declared.set.Set.{Set}
 use Rattle.store.specs.Calls.{or_else, told}
 use Rattle.store.proofs.Kept.{passed}
+use Rattle.sizes.specs.Fitting.{Fitting}
 use Rattle.journaling.specs.Changes.{contents}
 use Rattle.store.specs.Reads.{page_refusal, read_refusal, place, at_reading, file_of, files_of, FromCard, Reads, Shows}
 
@@ -66,6 +67,13 @@ in_range m d p long h =
     let c = passed _ _ _ b.1 in
     let e = and_parts (leb 1 p) (leb p (get_or m.sizes d 0)) c.0 in
     record { known = ltb-true d m.count a.0; whole = eqb-true long 512 b.0; low = leb-true 1 p e.0; high = leb-true p (get_or m.sizes d 0) e.1 }
+
+-- a page that passed them is one that a database can have
+pub page_small : (m : Memory) (d p long : ℕ) → None ≡ page_refusal m d p long → Fitting m.sizes → p ≤ 4096
+page_small m d p long h fitting =
+    let r = in_range m d p long (sym h) in
+    let d_small : d < 4 = omega (arith, r.known, m.few) in
+    omega (arith, r.high, (fitting d d_small).1)
 
 module _ {C : Type 0} (m : Meaning C) (d p : ℕ) (s : Set C) (old : Bytes) (r : Result (Unit {0}) Refusal) (s' : Set C) (new : Bytes) where
   shown_page : InRange s.memory d p (length old) → new ≡ page_now (files_of m s) (fields s.memory) d p → new ≡ part ((view (files_of m s) s.memory).held.current d) (place p) 512

@@ -1,11 +1,11 @@
 -- Why the calls of a set are refused, the test of the mode first and then those of the memory; and what they
 -- leave alone.
-use Rattle.std.specs.Prelude.{◌≡◌, ℕ, cond, ◌&&◌, List, [], length, Some, None, Ok, Err, Option, Result, ◌==◌, nat_le}
+use Rattle.std.specs.Prelude.{◌≡◌, ◌≢◌, ℕ, cond, ◌&&◌, List, [], length, Some, None, Ok, Err, Option, Result, ◌==◌, nat_le}
 use Rattle.std.specs.Option.{option_map}
 use Rattle.refusal.specs.declared.fault.SetFault.{SetFault}
 use Rattle.refusal.specs.declared.refusals.Refusal.{Refusal}
 use Rattle.refusal.specs.declared.refusals.Refusal.TheVariants.{SavepointsFull, NoSavepoint, Card}
-use Rattle.refusal.specs.Raised.{of_memory}
+use Rattle.refusal.specs.Raised.{of_memory, refused}
 use Rattle.pager.specs.declared.memory.Memory.{Memory}
 use Rattle.pager.specs.Machine.{cleared}
 use Rattle.pager.specs.View.{view, Stored, write_refusal}
@@ -41,6 +41,10 @@ pub record Fresh (before : Memory) (rows : List ℕ) (after : Memory) : Type 0 w
 abbrev pub told : {V : Type 0} → Result V SetFault → Result V Refusal
 told (Ok v) = Ok v
 told (Err f) = Err (Card f)
+
+-- a refused call leaves the whole set as it was
+abbrev pub KeptIfRefused : {C : Type 0} {V : Type 0} → Result V Refusal → Set C → Set C → Type 0
+KeptIfRefused r s s' = (refused r ≢ None) → s' ≡ s
 
 -- all but the mode and the count of transactions is as it was
 pub record ButMode {C : Type 0} (s s' : Set C) : Type 0 where

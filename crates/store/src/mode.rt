@@ -9,6 +9,8 @@ pub enum Mode {
 }
 
 /// What a call asks of the mode: to begin a transaction, to read, to use a transaction, or to end it.
+// An enum of calls, since the call is matched together with the mode, in place: a rule of the project
+// (docs/SET.md).
 #[derive(Clone, Copy)]
 pub enum Call {
     Begin { nonce: u32 },

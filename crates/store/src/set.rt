@@ -8,6 +8,7 @@ use journal::JOURNAL_LIMIT;
 use names::Names;
 use pager::Memory;
 use sizes::Sizes;
+use std::mem::size_of;
 
 mod admit;
 mod clear;
@@ -33,3 +34,6 @@ pub struct Set<C> {
     ghost tied: { memory.count ≡ how_many names },
     ghost fitting: { Fitting memory.sizes },
 }
+
+// The set takes at most 64 KiB beside its card.
+const _: () = prove!(size_of::<Set<()>>() <= 65_536);

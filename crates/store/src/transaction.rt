@@ -2,8 +2,9 @@
 ghost use Rattle.std.specs.Prelude.{◌≡◌, true, false};
 
 /// The token of a transaction. It may not be let go: a commit or a rollback takes it. The number 0 is
-/// that of a void token. The flag is there for the drop's `requires`, a form that the project asks for: a
-/// ghost field says only what always holds.
+/// that of a void token.
+// The flag is there for the drop's `requires`, a form that the project asks for. In code it is never false;
+// a `requires` that no value at all could meet would be refused as empty.
 pub struct Transaction {
     number: u32,
     open: bool,

@@ -50,7 +50,9 @@ fn look_at_super<C: Card>(
 }
 
 /// Judges the journal of a database.
-// That the number is below four is what `journal_of` wants; here and in `settling` databases go by number.
+// A database goes by its number, as in the calls and in the faults. That it is below four is what
+// `journal_of` wants; a type for such numbers would be taken apart again at each site and each name.
+#[tactic(auto, using(set_files::proofs::Looks::looked_judged))]
 fn judge_journal<C: Card>(
     card: &mut C,
     names: &Names,
@@ -77,6 +79,8 @@ fn judge_journal<C: Card>(
 }
 
 /// Judges each journal, in order, up to the first that is damaged.
+// No `Few`, but four places cut at the number of databases: a report has four, and tells none of a database
+// that the set has not.
 pub(crate) fn judge_journals<C: Card>(
     card: &mut C,
     names: &Names,

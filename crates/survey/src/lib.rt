@@ -3,6 +3,8 @@
 // Every database must be present. A journal is absent, damaged, spent or hot: hot is a sound one,
 // unless it names a super-journal that is absent. A hot journal may name only the set's super-journal,
 // which must be a list of names, none of them of a present file that is not a journal of the set.
+//
+// `as` stands where a u32 and a usize meet, since there is no `From` between them.
 #![tactic(auto)]
 
 mod journals;

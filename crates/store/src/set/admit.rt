@@ -1,7 +1,7 @@
 // The mode and the call together: whether the call may go on, and what the mode is then.
-ghost use Rattle.std.specs.Prelude.{◌≡◌, None, ◌≢◌};
+ghost use Rattle.std.specs.Prelude.{◌≡◌};
 ghost use Rattle.refusal.specs.Raised.{refused};
-ghost use Rattle.store.specs.Calls.{ButMode};
+ghost use Rattle.store.specs.Calls.{ButMode, KeptIfRefused};
 ghost use Rattle.store.specs.Modes.{next, counted, says, OnlyAsks};
 
 use crate::mode::{Call, Mode};
@@ -14,7 +14,7 @@ impl<C> Set<C> {
         ensures refusal { refused result ≡ says self.old.mode self.old.begun call }
         ensures mode { self.new.mode ≡ next self.old.mode self.old.begun call }
         ensures begun { self.new.begun ≡ counted self.old.mode self.old.begun call }
-        ensures kept { (refused result ≢ None) → self.new ≡ self.old }
+        ensures kept { KeptIfRefused result self.old self.new }
         ensures asked { OnlyAsks call → self.new ≡ self.old }
         ensures others { ButMode self.old self.new }
     {

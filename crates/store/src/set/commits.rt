@@ -44,7 +44,7 @@ impl<C: Card> Set<C> {
         ensures { Commits C.Card.meaning self.old result self.new (says self.old.mode self.old.begun (End t.number)) }
     {
         let number = t.end();
-        // Where none runs it is refused as `admit` refuses it.
+        // The mode gives the nonce here, before `admit` changes it; where none runs it is refused as `admit` would.
         let Mode::Running { nonce, .. } = self.mode else {
             return Err(Refusal::Transaction);
         };

@@ -1,8 +1,8 @@
 // The two ends of a transaction: its begin, and its rollback.
-ghost use Rattle.std.specs.Prelude.{◌≡◌, true, None, ◌≢◌};
+ghost use Rattle.std.specs.Prelude.{◌≡◌, true, None};
 ghost use Rattle.refusal.specs.Raised.{refused};
 ghost use Rattle.store.specs.Modes.{next, counted, says, given};
-ghost use Rattle.store.specs.Calls.{Fresh, ButMode, ButRun};
+ghost use Rattle.store.specs.Calls.{Fresh, KeptIfRefused, ButMode, ButRun};
 ghost use Rattle.store.specs.declared.mode.Call.TheVariants.{Begin, End};
 
 use crate::mode::Call;
@@ -30,7 +30,7 @@ impl<C> Set<C> {
     /// Ends a transaction and drops what it changed. The token is taken also when the call is refused.
     pub fn rollback(&mut self, t: Transaction) -> Result<(), Refusal>
         ensures refusal { refused result ≡ says self.old.mode self.old.begun (End t.number) }
-        ensures kept { (refused result ≢ None) → self.new ≡ self.old }
+        ensures kept { KeptIfRefused result self.old self.new }
         ensures mode { self.new.mode ≡ next self.old.mode self.old.begun (End t.number) }
         ensures fresh { refused result ≡ None → Fresh self.old.memory self.old.stored.rows self.new.memory }
         ensures stored { self.new.stored ≡ self.old.stored }

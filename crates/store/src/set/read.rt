@@ -19,16 +19,17 @@ use refusal::{Refusal, SetFault};
 use steps::Site;
 
 /// Fills the buffer with a page of a database from its file.
+// A page from 1 to 4,096 is asked for by clauses and no type: a page is told as a number, and the calls, the
+// maps and the place in a file take it so.
 fn read_page<C: Card>(
     card: &mut C,
     names: &Names,
     database: usize,
     page: u32,
-    buffer: &mut [u8],
+    buffer: &mut [u8; PAGE],
 ) -> Result<(), SetFault>
     requires first { 1 ≤ page }
     requires last { page ≤ 4096 }
-    requires long { count_of buffer.old ≡ 512 }
     ensures went { Went C.Card.meaning (task (at_reading database) (file_of names.now database) (reads (place_of page) 512) ∷ []) card.old result card.new }
     ensures bytes { ToldBytes (C.Card.meaning.holds card.old (file_of names.now database)) (place_of page) buffer.old result buffer.new }
 {
@@ -88,7 +89,8 @@ impl<C: Card> Set<C> {
             buffer.copy_from_slice(bytes);
             return Ok(());
         }
-        let answer = read_page(&mut self.card, &self.names, database, page, buffer);
+        let whole = buffer.as_mut_array().unwrap();
+        let answer = read_page(&mut self.card, &self.names, database, page, whole);
         self.settle(answer)
     }
 }

@@ -1,10 +1,10 @@
 // Writing a page in the running transaction.
-ghost use Rattle.std.specs.Prelude.{◌≡◌, ℕ, ◌+◌, cond, List, length as count_of, None, ◌≢◌};
+ghost use Rattle.std.specs.Prelude.{◌≡◌, ℕ, ◌+◌, cond, List, length as count_of, None};
 ghost use Rattle.pager.specs.Machine.{written};
 ghost use Rattle.pager.specs.Sound.{map_of};
 ghost use Rattle.pager.specs.View.{view, fields, saved_first};
 ghost use Rattle.refusal.specs.Raised.{refused};
-ghost use Rattle.store.specs.Calls.{writing_refusal, ButMemory};
+ghost use Rattle.store.specs.Calls.{writing_refusal, KeptIfRefused, ButMemory};
 
 use crate::mode::Call;
 use crate::set::Set;
@@ -21,7 +21,7 @@ impl<C> Set<C> {
         bytes: &[u8],
     ) -> Result<(), Refusal>
         ensures refusal { refused result ≡ writing_refusal self.old.mode self.old.begun t.now.number self.old.memory database page (count_of bytes.now) }
-        ensures kept { (refused result ≢ None) → self.new ≡ self.old }
+        ensures kept { KeptIfRefused result self.old self.new }
         ensures done { refused result ≡ None → (files : ℕ → List ℕ) → view files self.new.memory ≡ written database page bytes.now (view files self.old.memory) }
         ensures used { refused result ≡ None → count_of self.new.memory.changed.rows.items ≡ cond (map_of self.old.memory.maps database page) (count_of self.old.memory.changed.rows.items) (count_of self.old.memory.changed.rows.items + 1) }
         ensures saved { refused result ≡ None → (fields self.new.memory).saved ≡ saved_first self.old.memory database page }

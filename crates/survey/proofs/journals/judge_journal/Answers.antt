@@ -20,15 +20,6 @@ pub returns-in_err-judge_numbered-clause-looked : goal.returns-in_err-judge_numb
 returns-in_err-judge_numbered-clause-looked g c =
     looked_refused _ _ _ _ _ _ _ c.from_residual.ensures.1 (looked_judged _ _ (file_of c.args.names.now) _ _ c.journal_of-file.result _ _ c.in_err-judge_numbered.ensures.went)
 
-pub returns-in-None-clause-looked : goal.returns-in-None-clause-looked
-returns-in-None-clause-looked g c = looked_judged _ _ (file_of c.args.names.now) _ _ c.journal_of-file.result _ _ c.in_ok-judge_numbered.ensures.went
-
-pub returns-in-Some-Spent-clause-looked : goal.returns-in-Some-Spent-clause-looked
-returns-in-Some-Spent-clause-looked g c = looked_judged _ _ (file_of c.args.names.now) _ _ c.journal_of-file.result _ _ c.in_ok-judge_numbered.ensures.went
-
-pub returns-in-Some-Damaged-clause-looked : goal.returns-in-Some-Damaged-clause-looked
-returns-in-Some-Damaged-clause-looked g c = looked_judged _ _ (file_of c.args.names.now) _ _ c.journal_of-file.result _ _ c.in_ok-judge_numbered.ensures.went
-
 pub returns-in-Some-clause-looked : goal.returns-in-Some-clause-looked
 returns-in-Some-clause-looked g c =
     looked_then _ _ _ _ _ _ _ (looked_judged _ _ (file_of c.args.names.now) _ _ c.journal_of-file.result _ _ c.in_ok-judge_numbered.ensures.went) c.look_at_super.ensures.looked
@@ -48,9 +39,6 @@ returns-in-Some-clause-told g c =
     named_look files file d t.0 s.0 c.in-Some-Sound.sound.count c.in-Some.name.now x held s.1 s.2 (c.in-Some.ensures.told s.0 of) s.3.count
     (subst (λ (h : Holds). SuperLook h file c.in-Some-Sound.sound.count c.in-Some.name.now x) same h))
     (λ f k h. absurd h) (λ f h. h) (λ f h. h) c.look_at_super.ensures.told
-
-pub returns-in-None-super_journal-clause-looked : goal.returns-in-None-super_journal-clause-looked
-returns-in-None-super_journal-clause-looked g c = looked_judged _ _ (file_of c.args.names.now) _ _ c.journal_of-file.result _ _ c.in_ok-judge_numbered.ensures.went
 
 pub returns-in-None-super_journal-clause-told : goal.returns-in-None-super_journal-clause-told
 returns-in-None-super_journal-clause-told g c =

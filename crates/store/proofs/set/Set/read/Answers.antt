@@ -2,8 +2,13 @@ use Rattle.std.proofs.Common.{ℕ, List, length, Ok, rules}
 use Rattle.pager.specs.Changed.{look}
 use Rattle.pager.specs.View.{fields}
 use Rattle.store.specs.Reads.{read_refusal, Reads}
-use Rattle.store.proofs.Shown.{shown}
+use Rattle.store.proofs.Shown.{page_small, shown}
 use Rattle.store.proofs.set.Set.read.Goals as goal
+
+pub read_page-answer-requires-clause-last : goal.read_page-answer-requires-clause-last
+read_page-answer-requires-clause-last g c =
+    let at = c.admit.new.self in
+    page_small at.memory c.args.database c.args.page (length c.args.buffer.now) c.in_ok-check_page.ensures at.fitting
 
 pub returns-in-Some-clause-shows : goal.returns-in-Some-clause-shows
 returns-in-Some-clause-shows g c =
