@@ -19,6 +19,8 @@ use super_journal::put_ended;
 
 impl Work<'_> {
     /// Fills the buffer with the names of the journals of the commit, and tells these bytes.
+    // A loop as in `put_names`, and no call of it: that takes a list of borrowed names, and here each name is made in
+    // its turn, so that the list would want a second one, of the names that it borrows.
     fn fill_super<'b>(&self, buffer: &'b mut [u8; JOURNAL_LIMIT]) -> &'b [u8]
         ensures { result.now ≡ names_bytes (journals self.now) }
     {

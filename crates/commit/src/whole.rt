@@ -15,6 +15,7 @@ use sizes::Sizes;
 /// Commits what a transaction's memory holds to the databases on the card, whose sizes at the start
 /// are given, and tells how many journals are left. Without a changed page it calls no card. A fault
 /// before the deletion that makes the commit count stops it.
+// Six parameters: the set lends its fields one by one, the card and the buffer to be changed, the others to be read.
 pub fn commit<C: Card>(
     card: &mut C,
     names: &Names,

@@ -11,6 +11,8 @@ use pager::Memory;
 use sizes::Sizes;
 
 /// What a commit works by: the changed databases stand in a list, in order.
+// Four fields stand in `Journals` too, and are copied in one place, in `rounds`. With a `Journals` held here each
+// other round, and each clause on a commit, would reach through it for those four.
 #[derive(Clone, Copy)]
 pub struct Work<'a> {
     pub names: &'a Names,

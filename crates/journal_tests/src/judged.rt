@@ -92,8 +92,8 @@ fn a_super_journal_is_read_back(rt: HostRuntime) -> Result<(), Fail> {
     );
     let names = read_names(&buffer[0..20]).ok_or("no super-journal")?;
     assert_eq!(rt; names.len(), 2);
-    assert_eq!(rt; names.as_slice()[0], b"a-journal");
-    assert_eq!(rt; names.as_slice()[1], b"b-journal");
+    assert_eq!(rt; names.as_slice()[0], b"a-journal".as_slice());
+    assert_eq!(rt; names.as_slice()[1], b"b-journal".as_slice());
     // the second begins past the first and its zero byte
     assert_eq!(rt; names.as_slice()[1], &buffer[10..19]);
     assert!(rt; read_names(&buffer[0..19]).is_none());
