@@ -1,4 +1,4 @@
-// The numbers of refusals, row by row.
+// The numbers of refusals, row by row. The set's enum is a type of its own, with a table in the tests of the set.
 use names::ListRefusal;
 use pager::Refusal;
 

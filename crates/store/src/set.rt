@@ -35,5 +35,5 @@ pub struct Set<C> {
     ghost fitting: { Fitting memory.sizes },
 }
 
-// The set takes at most 64 KiB beside its card.
+// With a card of no bytes the set takes at most 64 KiB.
 const _: () = prove!(size_of::<Set<()>>() <= 65_536);

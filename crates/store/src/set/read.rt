@@ -46,7 +46,7 @@ impl<C> Set<C> {
         if length != PAGE {
             return Err(Refusal::BufferLength);
         }
-        if page < 1 || page > size {
+        if !(1..=size).contains(&page) {
             return Err(Refusal::Page);
         }
         Ok(())
