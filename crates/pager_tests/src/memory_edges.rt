@@ -88,3 +88,29 @@ fn savepoints_share_32_saved_pages(rt: HostRuntime) {
     assert_eq!(rt; m.saved_count(), 8);
     assert_eq!(rt; m.write(0, 9, &PAGE), Ok(()));
 }
+
+#[test]
+fn sizes_grow_over_nested_savepoints_and_shrink_when_cleared(rt: HostRuntime) {
+    let start = [3, 0, 4095, 1];
+    let mut m = Memory::new(4, start);
+    assert_eq!(rt; m.push(), Ok(1));
+    for (d, page) in [(0, 4), (1, 1), (2, 4096), (3, 2)] {
+        assert_eq!(rt; m.write(d, page, &PAGE), Ok(()));
+    }
+    assert_eq!(rt; m.push(), Ok(2));
+    for (d, page) in [(0, 5), (1, 2), (3, 3)] {
+        assert_eq!(rt; m.write(d, page, &PAGE), Ok(()));
+    }
+    assert_eq!(rt; m.saved_count(), 7);
+    assert_eq!(rt; m.release(2), Ok(()));
+    assert_eq!(rt; m.saved_count(), 7);
+    assert_eq!(rt; m.sizes(), [5, 2, 4096, 3]);
+    // the only call that makes a database smaller: none steps back to a savepoint
+    m.clear(start);
+    assert_eq!(rt; m.sizes(), start);
+    assert_eq!(rt; m.savepoints(), 0);
+    assert_eq!(rt; m.saved_count(), 0);
+    assert_eq!(rt; m.changed_count(0), Ok(0));
+    assert_eq!(rt; m.write(0, 5, &PAGE), Err(Refusal::Page));
+    assert_eq!(rt; m.write(0, 4, &PAGE), Ok(()));
+}
