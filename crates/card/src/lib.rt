@@ -1,8 +1,8 @@
 // A card: files by name, on a supply that can fail without warning.
 //
-// A card's meaning has three parts: whether power is on, what each present file holds now, and which
-// contents of each file may remain if power fails. Every call says what it does to that meaning by
-// one relation over what was asked and what was answered; docs/CARD.md tells it in words.
+// A card's meaning has four parts: whether power is on, what each present file holds now, which contents
+// of each file may remain if power fails, and where a fault may come from. Every call says what it does to
+// that meaning by one relation over what was asked and what was answered; docs/CARD.md tells it in words.
 #![tactic(auto)]
 
 ghost use Rattle.std.specs.Prelude.{◌≡◌, ℕ, Bool, List, length as count, Option};

@@ -9,7 +9,7 @@ use Rattle.journal.specs.Laws.{Quiet}
 use Rattle.journal.specs.declared.verdict.Verdict.TheVariants.{Damaged}
 use Rattle.journal.proofs.Laws.{journal_laws}
 use Rattle.journal.proofs.Verdicts.{unreadable as unreadable_damaged}
-use Rattle.pager.specs.declared.refusal.Refusal.TheVariants.{Page}
+use Rattle.refusal.specs.declared.refusals.Refusal.TheVariants.{Page}
 use Rattle.page_map.specs.Sets.{total as changed_total}
 use Rattle.pager.specs.declared.memory.Memory.{Memory}
 use Rattle.pager.specs.Machine.{written}

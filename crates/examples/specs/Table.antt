@@ -6,8 +6,8 @@ use Rattle.journal.specs.Judged.{Judged}
 use Rattle.super_journal.specs.Super.{super_journal_bytes}
 use Rattle.journal.specs.declared.verdict.Verdict.{Verdict}
 use Rattle.journal.specs.declared.verdict.Verdict.TheVariants.{Spent, Damaged}
-use Rattle.pager.specs.declared.refusal.Refusal.TheVariants.{Page}
-use Rattle.pager.specs.Refusals.{refusal_number}
+use Rattle.refusal.specs.declared.refusals.Refusal.TheVariants.{Page}
+use Rattle.refusal.specs.Numbers.{refusal_number}
 use Rattle.pager.specs.declared.memory.Memory.{Memory}
 use Rattle.pager.specs.Machine.{written}
 use Rattle.pager.specs.View.{view, write_refusal}

@@ -1,6 +1,6 @@
 // A journal in a buffer, and what is made of it.
 use journal::{Sound, Span, Verdict, judge};
-use journal_writer::{Refusal, fill_journal, put_count};
+use journal_writer::{Unfit, fill_journal, put_count};
 use std::process::Abort;
 use std::test::Fail;
 use super_journal::{put_names, read_names};
@@ -66,19 +66,19 @@ fn what_a_journal_cannot_be_is_refused(rt: HostRuntime) {
     let name: Option<&[u8]> = Some(b"m");
     assert_eq!(rt;
         fill_journal(&mut buffer, 7, 1, &[2], name),
-        Err(Refusal::Limit)
+        Err(Unfit::Limit)
     );
     assert_eq!(rt;
         fill_journal(&mut buffer, 7, 3, &[1, 3, 3], name),
-        Err(Refusal::Limit)
+        Err(Unfit::Limit)
     );
     assert_eq!(rt;
         fill_journal(&mut buffer, 7, 3, &[1, 3], name),
-        Err(Refusal::Room)
+        Err(Unfit::Room)
     );
     assert_eq!(rt;
         fill_journal(&mut buffer, 7, 4097, &[1], name),
-        Err(Refusal::Limit)
+        Err(Unfit::Limit)
     );
     assert_eq!(rt; fill_journal(&mut buffer, 7, 1, &[1], name), Ok(1053));
 }
@@ -97,6 +97,6 @@ fn a_super_journal_is_read_back(rt: HostRuntime) -> Result<(), Fail> {
     // the second begins past the first and its zero byte
     assert_eq!(rt; names.as_slice()[1], &buffer[10..19]);
     assert!(rt; read_names(&buffer[0..19]).is_none());
-    assert_eq!(rt; put_names(&mut buffer, &[b"a\0b"]), Err(Refusal::Limit));
+    assert_eq!(rt; put_names(&mut buffer, &[b"a\0b"]), Err(Unfit::Limit));
     Ok(())
 }

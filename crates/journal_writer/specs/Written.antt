@@ -6,27 +6,27 @@ use Rattle.card.specs.Meaning.{Bytes, Name}
 use Rattle.card.specs.Calls.{overwrite, name_ok}
 use Rattle.journal.specs.Format.{PageRecord, Journal, LawfulJournal, encode, super_bytes, page_size, page_limit, record_limit}
 use Rattle.journal.specs.Judged.{record_place, page_bytes}
-use Rattle.journal_writer.specs.declared.writer.Refusal.{Refusal}
-use Rattle.journal_writer.specs.declared.writer.Refusal.TheVariants.{Limit, Room}
+use Rattle.journal_writer.specs.declared.writer.Unfit.{Unfit}
+use Rattle.journal_writer.specs.declared.writer.Unfit.TheVariants.{Limit, Room}
 
 -- a part put into a buffer, as is said of it, if it is within the limits and there is room up to its end;
 -- a refusal leaves the buffer, and limits are told before want of room
-abbrev pub PutTo : Bytes → ℕ → Bool → Type 0 → Result (Unit {0}) Refusal → Bytes → Type 0
+abbrev pub PutTo : Bytes → ℕ → Bool → Type 0 → Result (Unit {0}) Unfit → Bytes → Type 0
 PutTo old end lawful Done (Ok u) new = (lawful ≡ true) × (end ≤ length old) × Done
 PutTo old end lawful Done (Err Limit) new = (lawful ≡ false) × (new ≡ old)
 PutTo old end lawful Done (Err Room) new = (lawful ≡ true) × (length old < end) × (new ≡ old)
 
 -- why what ends at a place, or is out of the limits, is not put into a buffer of a size
-abbrev pub NoRoom : ℕ → Option ℕ → Refusal → Type 0
+abbrev pub NoRoom : ℕ → Option ℕ → Unfit → Type 0
 NoRoom size end Limit = end ≡ None
 NoRoom size end Room = (n : ℕ) × (end ≡ Some n) × (size < n)
 
 -- the same of work that ends at a place, of which there is none out of the limits
-abbrev pub PutUpTo : Bytes → Option ℕ → Type 0 → Result (Unit {0}) Refusal → Bytes → Type 0
+abbrev pub PutUpTo : Bytes → Option ℕ → Type 0 → Result (Unit {0}) Unfit → Bytes → Type 0
 PutUpTo old end Done r new = PutTo old (unwrap_or end 0) (is_some end) Done r new
 
 -- the same of bytes put at a place
-abbrev pub Put : Bytes → ℕ → ℕ → Bytes → Bool → Result (Unit {0}) Refusal → Bytes → Type 0
+abbrev pub Put : Bytes → ℕ → ℕ → Bytes → Bool → Result (Unit {0}) Unfit → Bytes → Type 0
 Put old place size bytes lawful r new = PutTo old (place + size) lawful (new ≡ overwrite old place bytes) r new
 
 abbrev pub size_lawful : ℕ → Bool
@@ -76,7 +76,7 @@ made_lawful size pages name = size_lawful size && (pages_lawful size pages && gi
 
 -- the journal of the pages that lay in the buffer, with count 0, now stands at its start, and its length is told;
 -- or why not: a refusal leaves the buffer, and limits are told before want of room
-abbrev pub Filled : Bytes → ℕ → ℕ → List ℕ → Option Name → Result ℕ Refusal → Bytes → Type 0
+abbrev pub Filled : Bytes → ℕ → ℕ → List ℕ → Option Name → Result ℕ Unfit → Bytes → Type 0
 Filled old nonce size pages name (Ok n) new =
     LawfulJournal (journal_in old nonce size pages name) × (n ≡ length (encode 0 (journal_in old nonce size pages name))) × (n ≤ length old)
     × (new ≡ overwrite old 0 (encode 0 (journal_in old nonce size pages name)))

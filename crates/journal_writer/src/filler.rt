@@ -7,7 +7,7 @@ ghost use Rattle.journal.specs.Format.{records_bytes, super_bytes};
 ghost use Rattle.journal.specs.Judged.{record_place as place_of};
 ghost use Rattle.journal_writer.specs.Written.{Filled, made_lawful, ascend, pages_lawful, given_lawful, told, originals};
 
-use crate::writer::{Refusal, fill_header, fill_name, is_size, room, seal_record};
+use crate::writer::{Unfit, fill_header, fill_name, is_size, room, seal_record};
 use card::is_name;
 use journal::{RECORD_LIMIT, SUPER_EXTRA, record_place};
 
@@ -82,7 +82,7 @@ pub fn fill_journal(
     size: u32,
     pages: &[u32],
     name: Option<&[u8]>,
-) -> Result<usize, Refusal>
+) -> Result<usize, Unfit>
     ensures { Filled buffer.old nonce size pages.now (told name.entry) result buffer.new }
 {
     let length = room(buffer, journal_length(size, pages, name))?;

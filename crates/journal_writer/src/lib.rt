@@ -11,4 +11,4 @@ mod writer;
 
 pub use filler::fill_journal;
 pub use stored::store_journal;
-pub use writer::{Refusal, put_bytes, put_count, put_header, put_name, put_record, room};
+pub use writer::{Unfit, put_bytes, put_count, put_header, put_name, put_record, room};

@@ -17,7 +17,7 @@ use page_map::is_page;
 
 /// Why a part of a journal was not put into a buffer, which is then as it was.
 #[derive(Clone, Copy, PartialEq, Eq, Debug)]
-pub enum Refusal {
+pub enum Unfit {
     /// A number, a page or a name is out of the limits.
     Limit,
     /// The buffer ends before the part would.
@@ -55,18 +55,18 @@ pub fn fill_header(buffer: &mut [u8], nonce: u32, size: u32)
 
 /// Where what is put into a buffer ends, if there is such an end, and room up to it. `None` stands for a part that is
 /// out of the limits.
-pub fn room(buffer: &[u8], end: Option<usize>) -> Result<usize, Refusal>
+pub fn room(buffer: &[u8], end: Option<usize>) -> Result<usize, Unfit>
     ensures { MatchResult result (λ n. (end ≡ Some n) × (n ≤ count_bytes buffer.now)) (NoRoom (count_bytes buffer.now) end) }
 {
-    let end = end.ok_or(Refusal::Limit)?;
+    let end = end.ok_or(Unfit::Limit)?;
     if buffer.len() < end {
-        return Err(Refusal::Room);
+        return Err(Unfit::Room);
     }
     Ok(end)
 }
 
 /// Puts a part that ends at a place of the buffer, if there is such an end, and room up to it.
-fn put<F: FnOnce(&mut [u8])>(buffer: &mut [u8], end: Option<usize>, work: F) -> Result<(), Refusal>
+fn put<F: FnOnce(&mut [u8])>(buffer: &mut [u8], end: Option<usize>, work: F) -> Result<(), Unfit>
     requires { (n : ℕ) → end ≡ Some n → n ≤ count_bytes buffer.old → FnOnceTakesAtMut F.FnOnce work buffer.old }
     ensures { PutUpTo buffer.old end (FnOnceReturnsAtMut F.FnOnce work buffer.old tt buffer.new) result buffer.new }
 {
@@ -83,7 +83,7 @@ pub fn is_size(size: u32) -> bool
 }
 
 /// Puts a header of count 0 at the start of the buffer.
-pub fn put_header(buffer: &mut [u8], nonce: u32, size: u32) -> Result<(), Refusal>
+pub fn put_header(buffer: &mut [u8], nonce: u32, size: u32) -> Result<(), Unfit>
     ensures { Put buffer.old 0 512 (header_bytes 0 nonce size) (size_lawful size) result buffer.new }
 {
     let end = is_size(size).then_some(SECTOR);
@@ -128,7 +128,7 @@ pub fn put_record(
     nonce: u32,
     page: u32,
     bytes: &[u8],
-) -> Result<(), Refusal>
+) -> Result<(), Unfit>
     ensures { Put buffer.old (place_of index) 520 (record_bytes nonce (record { page = page; bytes = bytes.now })) (record_lawful index page bytes.now) result buffer.new }
 {
     let end = is_record(index, page, bytes).then_some(record_place(index) + RECORD);
@@ -160,7 +160,7 @@ pub fn fill_name(buffer: &mut [u8], place: usize, name: &[u8])
 }
 
 /// Puts the super-journal record past so many page records.
-pub fn put_name(buffer: &mut [u8], count: u32, name: &[u8]) -> Result<(), Refusal>
+pub fn put_name(buffer: &mut [u8], count: u32, name: &[u8]) -> Result<(), Unfit>
     ensures { Put buffer.old (place_of count) (20 + count_bytes name.now) (super_bytes (Some name.now)) (name_lawful count name.now) result buffer.new }
 {
     let place = record_place(count);
@@ -169,7 +169,7 @@ pub fn put_name(buffer: &mut [u8], count: u32, name: &[u8]) -> Result<(), Refusa
 }
 
 /// Puts the count into the header at the start of the buffer.
-pub fn put_count(buffer: &mut [u8], count: u32) -> Result<(), Refusal>
+pub fn put_count(buffer: &mut [u8], count: u32) -> Result<(), Unfit>
     ensures { Put buffer.old 8 4 (number_bytes count) (count_lawful count) result buffer.new }
 {
     let end = (count <= RECORD_LIMIT).then_some(12);

@@ -6,8 +6,8 @@ use Rattle.std.proofs.lemmas.Bool.{and_from, and_parts, both_ways, le-leb, lt-lt
 use Rattle.card.specs.Meaning.{Bytes, Name}
 use Rattle.journal.specs.Format.{super_bytes}
 use Rattle.journal.proofs.Encoded.{length_super}
-use Rattle.journal_writer.specs.declared.writer.Refusal.{Refusal}
-use Rattle.journal_writer.specs.declared.writer.Refusal.TheVariants.{Limit, Room}
+use Rattle.journal_writer.specs.declared.writer.Unfit.{Unfit}
+use Rattle.journal_writer.specs.declared.writer.Unfit.TheVariants.{Limit, Room}
 use Rattle.journal_writer.specs.Written.{Filled, pages_lawful, given_lawful, ascend}
 use Rattle.names.specs.declared.file_name.FileName.{FileName}
 use Rattle.page_map.specs.Sets.{PageSet, counted}
@@ -58,7 +58,7 @@ short_super (Some n) lawful = omega (arith, length_super n, leb-true (length n) 
     at_most false b is = absurd (both_ways false refl is)
 
 pub not_refused :
-    (old new : Bytes) (nonce size : ℕ) (pages : List ℕ) (super : Option Name) (r : Result ℕ Refusal) → 1 ≤ size → size ≤ 4096 → pages_lawful size pages ≡ true →
+    (old new : Bytes) (nonce size : ℕ) (pages : List ℕ) (super : Option Name) (r : Result ℕ Unfit) → 1 ≤ size → size ≤ 4096 → pages_lawful size pages ≡ true →
     given_lawful super ≡ true → length old ≡ 17724 → Filled old nonce size pages super r new → IsOk r
 not_refused old new nonce size pages super (Ok n) some small lawful named long f = refl
 not_refused old new nonce size pages super (Err Limit) some small lawful named long f =

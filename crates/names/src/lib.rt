@@ -3,11 +3,9 @@
 
 mod file;
 mod file_name;
-mod list_refusal;
 mod names;
 
 pub use file::{SUPER_JOURNAL, journal_of};
 pub use file_name::FileName;
-pub use list_refusal::ListRefusal;
 pub use names::{Names, checked};
 pub use page_map::DATABASES;

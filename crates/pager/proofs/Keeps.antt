@@ -16,8 +16,8 @@ use Rattle.pager.specs.declared.changed_pages.ChangedPages.{ChangedPages}
 use Rattle.pager.specs.declared.saved_page.SavedPage.{SavedPage}
 use Rattle.pager.specs.declared.saved_pages.SavedPages.{SavedPages}
 use Rattle.pager.specs.declared.saved_page.Was.{Was}
-use Rattle.pager.specs.declared.refusal.Refusal.{Refusal}
-use Rattle.pager.specs.declared.refusal.Refusal.TheVariants.{NoDatabase, BufferLength, Page, ChangedFull, SavedFull}
+use Rattle.refusal.specs.declared.refusals.Refusal.{Refusal}
+use Rattle.refusal.specs.declared.refusals.Refusal.TheVariants.{NoDatabase, BufferLength, Page, ChangedFull, SavedFull}
 use Rattle.page_map.specs.Sets.{PageSet, including, is_page, total}
 use Rattle.page_map.specs.Words.{pages_of}
 use Rattle.pager.specs.Changed.{look, Whole, is_row}

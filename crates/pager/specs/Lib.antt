@@ -3,5 +3,4 @@ pub mod Laws
 pub mod Changed
 pub mod Saved
 pub mod Sound
-pub mod Refusals
 pub mod View

@@ -1,15 +1,16 @@
 -- The machine that a transaction's memory is, over what the files hold.
-use Rattle.std.specs.Prelude.{◌≡◌, ℕ, zero, suc, ◌+◌, ◌-◌, ◌*◌, ◌<◌, ◌≤◌, MatchResult, Bool, true, false, cond, not, ◌&&◌, List, [], ◌∷◌, ◌++◌, length, take, drop, replicate, Some, None, Ok, Err, Option, Result, ◌==◌, ◌≢◌, nat_le, nat_lt, slice_index, slice_index_or}
+use Rattle.std.specs.Prelude.{◌≡◌, ℕ, zero, suc, ◌+◌, ◌-◌, ◌*◌, ◌<◌, ◌≤◌, MatchResult, Bool, true, false, cond, not, ◌&&◌, List, [], ◌∷◌, ◌++◌, length, take, drop, replicate, Some, None, Option, Result, ◌==◌, ◌≢◌, nat_le, nat_lt, slice_index, slice_index_or}
 use Rattle.card.specs.Meaning.{Bytes}
 use Rattle.pager.specs.declared.memory.Memory.{Memory}
 use Rattle.pager.specs.declared.changed_page.ChangedPage.{ChangedPage}
 use Rattle.pager.specs.declared.saved_page.SavedPage.{SavedPage}
 use Rattle.pager.specs.declared.saved_page.Was.{Was}
 use Rattle.pager.specs.declared.saved_page.Was.TheVariants.{Changed, Unchanged, Absent}
-use Rattle.pager.specs.declared.refusal.Refusal.{Refusal}
-use Rattle.pager.specs.declared.refusal.Refusal.TheVariants.{NoDatabase, BufferLength, Page, ChangedFull, SavedFull}
+use Rattle.refusal.specs.declared.refusals.Refusal.{Refusal}
+use Rattle.refusal.specs.declared.refusals.Refusal.TheVariants.{NoDatabase, BufferLength, Page, ChangedFull, SavedFull}
 use Rattle.page_map.specs.declared.PageMap.{PageMap}
 use Rattle.page_map.specs.Sets.{total}
+use Rattle.refusal.specs.Results.{refused}
 use Rattle.pager.specs.Changed.{look}
 use Rattle.pager.specs.Saved.{has, first}
 use Rattle.pager.specs.Sound.{map_of}
@@ -129,11 +130,6 @@ saved_first m d p =
     cond (to_save m d p)
     ((fields m).saved ++ (record { level = length m.levels.items; database = d; page = p; was = was_of (look (fields m).changed d p) (nat_le p (slice_index m.sizes d)) } ∷ []))
     (fields m).saved
-
--- the refusal of an answer
-abbrev pub refused : {V : Type 0} → Result V Refusal → Option Refusal
-refused (Ok v) = None
-refused (Err r) = Some r
 
 -- a refusal changes nothing
 abbrev pub KeptIfRefused : {V : Type 0} → Result V Refusal → Memory → Memory → Type 0

@@ -1,11 +1,10 @@
 // The memory half of a transaction: the pages changed so far, and the savepoints to step back to.
-// It knows no card.
+// It calls no card.
 #![tactic(auto)]
 
 mod changed_page;
 mod changed_pages;
 mod memory;
-mod refusal;
 mod saved_page;
 mod saved_pages;
 
@@ -13,6 +12,5 @@ pub use changed_page::ChangedPage;
 pub use changed_pages::CHANGED_LIMIT;
 pub use memory::{Memory, SAVEPOINTS};
 pub use page_map::{DATABASES, PAGE_LIMIT, PageMap, is_page};
-pub use refusal::Refusal;
 pub use saved_page::{SavedPage, Was};
 pub use saved_pages::SAVED_LIMIT;

@@ -1,5 +1,6 @@
 // A transaction's memory at its limits.
-use pager::{Memory, Refusal};
+use pager::Memory;
+use refusal::Refusal;
 
 /// A page of one byte value.
 const PAGE: [u8; 512] = [7; 512];

@@ -1,5 +1,6 @@
 // Pages at the edges of a database, row by row.
-use pager::{Memory, Refusal};
+use pager::Memory;
+use refusal::Refusal;
 
 /// Writes of one page: the database's size in pages, the page, and the answer.
 const EDGES: [(u32, u32, Result<(), Refusal>); 18] = [

@@ -5,10 +5,10 @@ use card::{Card, CardFault};
 use delayed_card::DelayedCard;
 use halves::Kept;
 use journal::PAGE;
-use names::{Names, checked};
 use refusal::Refusal;
 use std::alloc::Global;
 use store::Set;
+use store::checked_names::{Names, checked};
 
 /// Two halves of 16 slots of 4,096 bytes.
 pub const IMAGE: usize = 131_072;

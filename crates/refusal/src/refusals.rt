@@ -2,10 +2,8 @@
 ghost use Rattle.std.specs.Prelude.{◌≡◌};
 ghost use Rattle.refusal.specs.declared.refusals.Refusal.TheVariants.{Card as by_card};
 ghost use Rattle.refusal.specs.Numbers.{refusal_number};
-ghost use Rattle.refusal.specs.Raised.{of_list, of_memory};
 
 use crate::fault::SetFault;
-use names::ListRefusal;
 
 // Files and records beside a number are numbers, and 0 is no record: so they are told, by a rule of the
 // project (docs/REFUSALS.md).
@@ -84,36 +82,5 @@ impl From<SetFault> for Refusal {
 
     fn from(fault: SetFault) -> Refusal {
         Refusal::Card(fault)
-    }
-}
-
-// By cases here and below, since the layers' refusals are types of their own with words of their own, and
-// the set tells one flat list of 17 refusals (docs/REFUSALS.md), so no variant holds a layer's.
-impl From<ListRefusal> for Refusal {
-    ghost from_gives = { λ e r. r ≡ of_list e };
-
-    fn from(refusal: ListRefusal) -> Refusal {
-        match refusal {
-            ListRefusal::Count => Refusal::NameCount,
-            ListRefusal::Length(which) => Refusal::NameLength(which),
-            ListRefusal::Byte(which) => Refusal::NameByte(which),
-            ListRefusal::Equal => Refusal::NamesEqual,
-        }
-    }
-}
-
-impl From<pager::Refusal> for Refusal {
-    ghost from_gives = { λ e r. r ≡ of_memory e };
-
-    fn from(refusal: pager::Refusal) -> Refusal {
-        match refusal {
-            pager::Refusal::NoDatabase => Refusal::NoDatabase,
-            pager::Refusal::BufferLength => Refusal::BufferLength,
-            pager::Refusal::Page => Refusal::Page,
-            pager::Refusal::ChangedFull => Refusal::ChangedFull,
-            pager::Refusal::SavedFull => Refusal::SavedFull,
-            pager::Refusal::SavepointsFull => Refusal::SavepointsFull,
-            pager::Refusal::NoSavepoint => Refusal::NoSavepoint,
-        }
     }
 }

@@ -3,6 +3,7 @@
 #![tactic(auto)]
 
 mod cuts;
+mod edges;
 mod filled;
 mod journals;
 mod pages;
@@ -12,6 +13,7 @@ use anyhow::anyhow;
 use card::Card;
 use cards::DirectCard;
 use cuts::{cut_each, trouble_each};
+use edges::compare_each;
 use filled::print_journal;
 use journals::judge_each;
 use pages::change_pages;
@@ -61,7 +63,8 @@ fn run(rt: &HostRuntime) -> anyhow::Result<()> {
     cut_each(rt)?;
     trouble_each(rt)?;
     judge_each(rt)?;
-    change_pages(rt)
+    change_pages(rt)?;
+    compare_each(rt)
 }
 
 /// Does what the words ask for: nothing is the report, and `journal DATABASE [SUPER]` prints a journal

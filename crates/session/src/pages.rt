@@ -1,5 +1,6 @@
 // A transaction in memory, with nested savepoints, told step by step.
-use pager::{Memory, Refusal};
+use pager::Memory;
+use refusal::Refusal;
 
 /// What the transaction writes into a page.
 const PAGE: [u8; 512] = [5; 512];

@@ -1,11 +1,10 @@
 -- Why the calls of a set are refused, the test of the mode first and then those of the memory; and what they
 -- leave alone.
 use Rattle.std.specs.Prelude.{◌≡◌, ◌≢◌, ℕ, cond, ◌&&◌, List, [], length, Some, None, Ok, Err, Option, Result, ◌==◌, nat_le}
-use Rattle.std.specs.Option.{option_map}
 use Rattle.refusal.specs.declared.fault.SetFault.{SetFault}
 use Rattle.refusal.specs.declared.refusals.Refusal.{Refusal}
 use Rattle.refusal.specs.declared.refusals.Refusal.TheVariants.{SavepointsFull, NoSavepoint, Card}
-use Rattle.refusal.specs.Raised.{of_memory, refused}
+use Rattle.refusal.specs.Results.{refused}
 use Rattle.pager.specs.declared.memory.Memory.{Memory}
 use Rattle.pager.specs.Machine.{cleared}
 use Rattle.pager.specs.View.{view, Stored, write_refusal}
@@ -21,7 +20,7 @@ or_else (Some e) later = Some e
 
 module _ (mode : Mode) (begun number : ℕ) (memory : Memory) where
   abbrev pub writing_refusal : ℕ → ℕ → ℕ → Option Refusal
-  writing_refusal d p long = or_else (says mode begun (Use number)) (option_map of_memory (write_refusal memory d p long))
+  writing_refusal d p long = or_else (says mode begun (Use number)) (write_refusal memory d p long)
 
   abbrev pub savepoint_refusal : Option Refusal
   savepoint_refusal = or_else (says mode begun (Use number)) (cond (length memory.levels.items == 8) (Some SavepointsFull) None)

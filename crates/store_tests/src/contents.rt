@@ -2,12 +2,12 @@
 use card::{Card, CardFault};
 use direct_card::DirectCard;
 use journal::PAGE;
-use names::{ListRefusal, Names, checked};
 use refusal::{Refusal, SetFault};
 use std::array;
 use std::process::Abort;
 use std::test::Fail;
 use store::Set;
+use store::checked_names::{Names, checked};
 use trouble_layer::TroubleLayer;
 
 /// 16 slots, with 2,048 bytes for each file; a delayed card has two halves of that.
@@ -76,7 +76,7 @@ impl Page {
 }
 
 /// The names of the first databases: a, b, c, d.
-pub fn names(count: u8) -> Result<Names, ListRefusal> {
+pub fn names(count: u8) -> Result<Names, Refusal> {
     let all: [&[u8]; 4] = [b"a", b"b", b"c", b"d"];
     checked(&all[0..usize::from(count).min(4)])
 }

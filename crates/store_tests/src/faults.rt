@@ -99,3 +99,9 @@ fn each_fault_of_the_recovery_of_two_databases(rt: HostRuntime) -> Result<(), Fa
     assert_eq!(rt; refused_recoveries(&rt, 2, 26)?, 468);
     Ok(())
 }
+
+#[test]
+fn each_fault_of_the_recovery_of_four_databases(rt: HostRuntime) -> Result<(), Fail> {
+    assert_eq!(rt; refused_recoveries(&rt, 4, 48)?, 1671);
+    Ok(())
+}

@@ -5,7 +5,7 @@ ghost use Rattle.super_journal.specs.Super.{super_journal_bytes as names_bytes, 
 ghost use Rattle.super_journal.specs.Written.{Named, texts};
 
 use crate::reader::{NAME_COUNT_LIMIT, is_length};
-use journal_writer::{Refusal, put_bytes, room};
+use journal_writer::{Unfit, put_bytes, room};
 
 /// Whether a name can stand in a super-journal: 1 to 32 bytes, none of them zero.
 fn is_plain(name: &[u8]) -> bool
@@ -69,7 +69,7 @@ fn fill_names(buffer: &mut [u8], names: &[&[u8]])
 /// Fills the buffer with the super-journal of the names, and tells its length.
 // The answer is no slice of the buffer. Tried: of a buffer that an answer lends a part of, a proof knows nothing
 // afterwards, and the clause says what the buffer holds, and that the rest of the buffer is as it was.
-pub fn put_names(buffer: &mut [u8], names: &[&[u8]]) -> Result<usize, Refusal>
+pub fn put_names(buffer: &mut [u8], names: &[&[u8]]) -> Result<usize, Unfit>
     ensures { Named buffer.old (texts names.now) result buffer.new }
 {
     let length = room(buffer, super_length(names))?;

@@ -5,10 +5,10 @@ ghost use Rattle.names.specs.Files.{names_in, names_of};
 ghost use Rattle.names.specs.Refused.{Refused, Checked, FirstBad};
 
 use crate::file::SUPER_JOURNAL;
-use crate::list_refusal::ListRefusal;
 use crate::names::{NAME_LIMIT, NameList, Names};
 use few::Few;
 use page_map::DATABASES;
+use refusal::Refusal;
 
 /// The files of four databases: the databases, their journals, the super-journal.
 const FILES: usize = SUPER_JOURNAL + 1;
@@ -90,21 +90,21 @@ impl NameList {
 
 /// Checks a list of names. The tests go in the order of their numbers: the count, each name's
 /// length, each name's bytes, and that the names of all files differ.
-pub fn checked(list: &[&[u8]]) -> Result<Names, ListRefusal>
+pub fn checked(list: &[&[u8]]) -> Result<Names, Refusal>
     ensures { MatchResult result (λ n. Checked (texts list.now) (names_of n)) (λ e. Refused e (texts list.now)) }
 {
     if !(1..=DATABASES).contains(&list.len()) {
-        return Err(ListRefusal::Count);
+        return Err(Refusal::NameCount);
     }
     if let Some(i) = first_long(list) {
-        return Err(ListRefusal::Length(i));
+        return Err(Refusal::NameLength(i));
     }
     if let Some(i) = first_odd(list) {
-        return Err(ListRefusal::Byte(i));
+        return Err(Refusal::NameByte(i));
     }
     let list = NameList::copied(list);
     if list.has_twins() {
-        return Err(ListRefusal::Equal);
+        return Err(Refusal::NamesEqual);
     }
     Ok(Names { list })
 }

@@ -11,10 +11,10 @@ ghost use Rattle.pager.specs.View.{view, fields, Stored, NoSuch, OfKnown};
 
 use crate::changed_pages::ChangedPages;
 use crate::memory::Memory;
-use crate::refusal::Refusal;
 use crate::saved_pages::SavedPages;
 use few::Few;
 use page_map::{DATABASES, PAGE, PageMap, Pages};
+use refusal::Refusal;
 
 impl Memory {
     /// The memory of a transaction on so many databases, at most four, of these sizes in pages:

@@ -1,13 +1,14 @@
 // Savepoints: pushing one, and releasing one with all above it.
 ghost use Rattle.std.specs.Prelude.{◌≡◌, ◌+◌, ◌&&◌, leb, [], length, IfOk, if◌then◌else◌, Some, None, nat_eq, nat_le};
-ghost use Rattle.pager.specs.declared.refusal.Refusal.TheVariants.{SavepointsFull, NoSavepoint};
+ghost use Rattle.refusal.specs.declared.refusals.Refusal.TheVariants.{SavepointsFull, NoSavepoint};
 ghost use Rattle.pager.specs.Laws.{BackLaw, ReleaseLaw};
 ghost use Rattle.pager.specs.Machine.{pushed, released};
 ghost use Rattle.pager.specs.Saved.{gathered};
-ghost use Rattle.pager.specs.View.{fields, refused, KeptIfRefused, Takes};
+ghost use Rattle.pager.specs.View.{fields, KeptIfRefused, Takes};
+ghost use Rattle.refusal.specs.Results.{refused};
 
 use crate::memory::Memory;
-use crate::refusal::Refusal;
+use refusal::Refusal;
 
 impl Memory {
     /// Makes a savepoint of what is held now, and tells its number; the lowest is 1. The contract

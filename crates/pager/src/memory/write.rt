@@ -4,12 +4,13 @@ ghost use Rattle.pager.specs.Changed.{look};
 ghost use Rattle.pager.specs.Machine.{written};
 ghost use Rattle.page_map.specs.Sets.{total};
 ghost use Rattle.pager.specs.Sound.{map_of};
-ghost use Rattle.pager.specs.View.{fields, page_allowed, to_save, write_refusal, was_of, saved_first, refused, KeptIfRefused, Takes};
+ghost use Rattle.pager.specs.View.{fields, page_allowed, to_save, write_refusal, was_of, saved_first, KeptIfRefused, Takes};
+ghost use Rattle.refusal.specs.Results.{refused};
 
 use crate::memory::Memory;
-use crate::refusal::Refusal;
 use crate::saved_page::{SavedPage, Was};
 use page_map::{PAGE, is_page};
+use refusal::Refusal;
 
 impl Memory {
     // Three tests want a database of the four, as the arrays do: a total look-up would need an answer for

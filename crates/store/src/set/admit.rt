@@ -1,6 +1,6 @@
 // The mode and the call together: whether the call may go on, and what the mode is then.
 ghost use Rattle.std.specs.Prelude.{◌≡◌};
-ghost use Rattle.refusal.specs.Raised.{refused};
+ghost use Rattle.refusal.specs.Results.{refused};
 ghost use Rattle.store.specs.Calls.{ButMode, KeptIfRefused};
 ghost use Rattle.store.specs.Modes.{next, counted, says, OnlyAsks};
 

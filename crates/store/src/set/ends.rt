@@ -1,6 +1,6 @@
 // The two ends of a transaction: its begin, and its rollback.
 ghost use Rattle.std.specs.Prelude.{◌≡◌, true, None};
-ghost use Rattle.refusal.specs.Raised.{refused};
+ghost use Rattle.refusal.specs.Results.{refused};
 ghost use Rattle.store.specs.Modes.{next, counted, says, given};
 ghost use Rattle.store.specs.Calls.{Fresh, KeptIfRefused, ButMode, ButRun};
 ghost use Rattle.store.specs.declared.mode.Call.TheVariants.{Begin, End};

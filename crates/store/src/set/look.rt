@@ -73,6 +73,6 @@ impl<C> Set<C> {
     pub fn size(&self, database: usize) -> Result<u32, Refusal>
         ensures { MatchResult result (λ n. (database < how_many self.now.names) × (n ≡ slice_index self.now.memory.sizes database)) (λ e. (how_many self.now.names ≤ database) × (e ≡ NoDatabase)) }
     {
-        Ok(self.memory.size(database)?)
+        self.memory.size(database)
     }
 }

@@ -4,7 +4,7 @@ ghost use Rattle.card.specs.Calls.Op.{read as reads};
 ghost use Rattle.names.specs.Files.{file_of};
 ghost use Rattle.pager.specs.Changed.{look};
 ghost use Rattle.pager.specs.View.{fields};
-ghost use Rattle.refusal.specs.Raised.{refused};
+ghost use Rattle.refusal.specs.Results.{refused};
 ghost use Rattle.steps.specs.Tasks.{Went, task, ToldBytes};
 ghost use Rattle.store.specs.Calls.{told, ButRun};
 ghost use Rattle.store.specs.Reads.{page_refusal, read_refusal, place as place_of, at_reading, LeftBy, Reads, Shows};

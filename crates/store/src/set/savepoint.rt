@@ -3,7 +3,7 @@ ghost use Rattle.std.specs.Prelude.{◌≡◌, ℕ, ◌+◌, List, [], length, I
 ghost use Rattle.pager.specs.Machine.{pushed, released};
 ghost use Rattle.pager.specs.Saved.{gathered};
 ghost use Rattle.pager.specs.View.{view, fields};
-ghost use Rattle.refusal.specs.Raised.{refused};
+ghost use Rattle.refusal.specs.Results.{refused};
 ghost use Rattle.store.specs.Calls.{savepoint_refusal, release_refusal, KeptIfRefused, ButMemory};
 
 use crate::mode::Call;
@@ -23,7 +23,7 @@ impl<C> Set<C> {
     {
         let number = t.number();
         self.admit(Call::Use { number })?;
-        Ok(self.memory.push()?)
+        self.memory.push()
     }
 
     /// Removes savepoint s and all above it. Nothing that is held changes.
@@ -36,7 +36,6 @@ impl<C> Set<C> {
         ensures others { ButMemory self.old self.new }
     {
         self.admit(Call::Use { number: t.number() })?;
-        self.memory.release(s)?;
-        Ok(())
+        self.memory.release(s)
     }
 }

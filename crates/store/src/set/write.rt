@@ -3,7 +3,7 @@ ghost use Rattle.std.specs.Prelude.{◌≡◌, ℕ, ◌+◌, cond, List, length 
 ghost use Rattle.pager.specs.Machine.{written};
 ghost use Rattle.pager.specs.Sound.{map_of};
 ghost use Rattle.pager.specs.View.{view, fields, saved_first};
-ghost use Rattle.refusal.specs.Raised.{refused};
+ghost use Rattle.refusal.specs.Results.{refused};
 ghost use Rattle.store.specs.Calls.{writing_refusal, KeptIfRefused, ButMemory};
 
 use crate::mode::Call;
@@ -28,7 +28,6 @@ impl<C> Set<C> {
         ensures others { ButMemory self.old self.new }
     {
         self.admit(Call::Use { number: t.number() })?;
-        self.memory.write(database, page, bytes)?;
-        Ok(())
+        self.memory.write(database, page, bytes)
     }
 }

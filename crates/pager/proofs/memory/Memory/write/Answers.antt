@@ -1,6 +1,7 @@
 use Rattle.std.proofs.Common.{◌+◌, Bool, cond, length, sym, ap, ◌∙◌, arith}
 use mathlib.Core.Logic.{∥∥₁_map}
-use Rattle.pager.specs.View.{fields, refused}
+use Rattle.pager.specs.View.{fields}
+use Rattle.refusal.specs.Results.{refused}
 use Rattle.pager.proofs.Views.{held_written, stack_written}
 use Rattle.pager.proofs.Keeps.{allowed, linked, look_long, page_is, page_low, page_high, wrote_from, sound_written, saved_added}
 use Rattle.pager.proofs.memory.Memory.write.Goals as goal

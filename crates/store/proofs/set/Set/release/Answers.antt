@@ -1,6 +1,6 @@
 use Rattle.std.proofs.Common.{ap, ◌∙◌}
 use Rattle.pager.specs.Machine.{Machine}
-use Rattle.pager.specs.View.{refused}
+use Rattle.refusal.specs.Results.{refused}
 use Rattle.store.proofs.Bounds.{held_bounded}
 use Rattle.store.proofs.set.Set.release.Goals as goal
 

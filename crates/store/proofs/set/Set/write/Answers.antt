@@ -1,5 +1,5 @@
 use Rattle.std.proofs.Common.{◌∙◌}
-use Rattle.pager.specs.View.{refused}
+use Rattle.refusal.specs.Results.{refused}
 use Rattle.store.proofs.Bounds.{write_bounded}
 use Rattle.store.proofs.set.Set.write.Goals as goal
 
