@@ -18,7 +18,10 @@ fn a_list_has_1_to_4_names(rt: HostRuntime) {
 #[test]
 fn names_have_1_to_24_printable_bytes(rt: HostRuntime) {
     assert_eq!(rt; refusal(&[b"aaaaaaaaaaaaaaaaaaaaaaaa"]), None);
-    assert_eq!(rt; refusal(&[b"aaaaaaaaaaaaaaaaaaaaaaaaa"]), Some(NameLength(0)));
+    assert_eq!(rt;
+        refusal(&[b"aaaaaaaaaaaaaaaaaaaaaaaaa"]),
+        Some(NameLength(0))
+    );
     assert_eq!(rt; refusal(&[b"a\n", b""]), Some(NameLength(1)));
     assert_eq!(rt; refusal(&[b"a", b"a~ "]), None);
     assert_eq!(rt; refusal(&[b"a", b"a\n"]), Some(NameByte(1)));

@@ -73,12 +73,12 @@ impl fmt::Display for Numbers {
     }
 }
 
-/// That a write of each of the pages, alone, is answered so.
+/// Checks that a write of each of the pages, alone, is answered so, and what the size is then.
 fn check(size: u32, pages: &[u32], expected: Result<(), Refusal>) -> anyhow::Result<()> {
     for page in pages {
         let mut memory = Memory::new(1, [size, 0, 0, 0]);
         let answer = memory.write(0, *page, &[7; 512]);
-        let then = if answer.is_ok() { size.max(*page) } else { size };
+        let then = answer.map_or(size, |()| size.max(*page));
         if answer != expected || memory.size(0) != Ok(then) {
             return Err(anyhow!("page {page} of {size}: {answer:?}"));
         }
@@ -91,7 +91,11 @@ pub fn compare_each(rt: &HostRuntime) -> anyhow::Result<()> {
     println!(rt; "\nOne write at each edge of a database, as the table says\n")?;
     println!(rt; "{:>5}  {:<32}refused: 9", "pages", "done")?;
     for edge in &EDGES {
-        let Edge { size, written, refused } = edge;
+        let Edge {
+            size,
+            written,
+            refused,
+        } = edge;
         check(*size, written, Ok(()))?;
         check(*size, refused, Err(Refusal::Page))?;
         let written = format!(in rt.alloc(); "{}", Numbers(written))?;

@@ -2,7 +2,6 @@
 #![tactic(auto)]
 
 pub mod checked_names;
-
 mod mode;
 mod set;
 mod transaction;
