@@ -1,5 +1,6 @@
-// The program: a file task on a direct card, told call by call, and a short one on a delayed card,
-// cut or refused at each of its calls in turn.
+// The program of the parts: a file task on a direct card, told call by call, and a short one on a delayed
+// card, cut or refused at each of its calls in turn; journals, judged; a transaction in memory, step by
+// step; and writes at the edges of a database, compared with a table.
 #![tactic(auto)]
 
 mod cuts;
