@@ -2,6 +2,7 @@
 ghost use Rattle.std.specs.Prelude.{◌≡◌, ℕ, ◌*◌, ◌<◌, ◌≤◌, min, true, List, [], All, length, is_some, MatchOption, MatchResult, slice_index};
 ghost use Rattle.std.specs.Option.{option_map};
 ghost use Rattle.pager.specs.Changed.{look};
+ghost use Rattle.pager.specs.Examples.{Examples};
 ghost use Rattle.pager.specs.Machine.{cleared};
 ghost use Rattle.page_map.specs.Listed.{above};
 ghost use Rattle.page_map.specs.Walks.{left};
@@ -36,11 +37,14 @@ impl Memory {
     }
 
     /// Starts anew on databases of these sizes in pages: nothing is changed, and no savepoint stands.
+    // The machine's examples stand on this call, since the check proves its other clauses by itself: theirs is
+    // the only proof that is written.
     pub fn clear(&mut self, sizes: [u32; DATABASES])
         ensures count { self.new.count ≡ self.old.count }
         ensures sizes { self.new.sizes ≡ sizes }
         ensures empty { (self.new.changed.rows.items ≡ []) × (self.new.saved.rows.items ≡ []) }
         ensures view { (files : ℕ → List ℕ) → Stored files sizes → view files self.new ≡ cleared files }
+        ensures examples { Examples }
     {
         *self = Memory::new(self.count, sizes);
     }
