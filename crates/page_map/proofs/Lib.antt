@@ -7,3 +7,4 @@ pub mod Totals
 pub mod Listed
 pub mod Once
 pub mod Walks
+mod Cases

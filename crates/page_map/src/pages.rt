@@ -1,5 +1,6 @@
 // A walk over the pages of a map.
 ghost use Rattle.std.specs.Prelude.{◌≡◌};
+ghost use Rattle.page_map.specs.Examples.{Examples};
 ghost use Rattle.page_map.specs.Listed.{above, AboveLaw};
 ghost use Rattle.page_map.specs.Walks.{left, pages_in};
 
@@ -19,6 +20,7 @@ impl<'a> Pages<'a> {
     pub fn new(map: Option<&'a PageMap>) -> Pages<'a>
         ensures is { left result ≡ above (pages_in map.entry) 0 4096 }
         ensures law { AboveLaw }
+        ensures examples { Examples }
     {
         Pages { map, after: 0 }
     }
