@@ -15,7 +15,7 @@ pub struct Pages<'a> {
 
 impl<'a> Pages<'a> {
     /// All pages of the map; where there is no map, no page. The contract carries the law of their list:
-    /// it ascends, and has each page of the set within its bounds once and no other.
+    /// it ascends, and has each page of the set within its bounds once and no other; and a small map.
     #[tactic(auto, unfolding(crate::specs::Walks::left))]
     pub fn new(map: Option<&'a PageMap>) -> Pages<'a>
         ensures is { left result ≡ above (pages_in map.entry) 0 4096 }
