@@ -1,3 +1,4 @@
 pub mod Files
 mod Texts
 mod Ranges
+mod Cases

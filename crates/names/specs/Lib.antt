@@ -2,3 +2,4 @@ pub mod Names
 pub mod Files
 pub mod Numbered
 pub mod Refused
+pub mod Examples

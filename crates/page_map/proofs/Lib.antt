@@ -5,4 +5,6 @@ mod Nexts
 pub mod Visits
 pub mod Totals
 pub mod Listed
+pub mod Once
 pub mod Walks
+mod Cases

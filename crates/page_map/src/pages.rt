@@ -1,6 +1,7 @@
 // A walk over the pages of a map.
 ghost use Rattle.std.specs.Prelude.{◌≡◌};
-ghost use Rattle.page_map.specs.Listed.{above};
+ghost use Rattle.page_map.specs.Examples.{Examples};
+ghost use Rattle.page_map.specs.Listed.{above, AboveLaw};
 ghost use Rattle.page_map.specs.Walks.{left, pages_in};
 
 use crate::PageMap;
@@ -13,10 +14,13 @@ pub struct Pages<'a> {
 }
 
 impl<'a> Pages<'a> {
-    /// All pages of the map; where there is no map, no page.
+    /// All pages of the map; where there is no map, no page. The contract carries the law of their list:
+    /// it ascends, and has each page of the set within its bounds once and no other; and a small map.
     #[tactic(auto, unfolding(crate::specs::Walks::left))]
     pub fn new(map: Option<&'a PageMap>) -> Pages<'a>
-        ensures { left result ≡ above (pages_in map.entry) 0 4096 }
+        ensures is { left result ≡ above (pages_in map.entry) 0 4096 }
+        ensures law { AboveLaw }
+        ensures examples { Examples }
     {
         Pages { map, after: 0 }
     }

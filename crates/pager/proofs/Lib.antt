@@ -10,3 +10,4 @@ mod Fresh
 pub mod Counted
 pub mod Sizes
 mod Walks
+mod Cases

@@ -4,3 +4,4 @@ pub mod Changed
 pub mod Saved
 pub mod Sound
 pub mod View
+pub mod Examples

@@ -2,6 +2,7 @@
 ghost use Rattle.std.specs.Prelude.{◌≡◌, ℕ, ◌≤◌, true, length as count, Decides, MatchOption, MatchResult};
 ghost use Rattle.names.specs.Names.{Each, length_ok, printable, bytes_ok, is_file, file_name, Alike, listed, texts};
 ghost use Rattle.names.specs.Files.{names_in, names_of};
+ghost use Rattle.names.specs.Examples.{Examples};
 ghost use Rattle.names.specs.Refused.{Refused, Checked, FirstBad};
 
 use crate::file::SUPER_JOURNAL;
@@ -90,8 +91,11 @@ impl NameList {
 
 /// Checks a list of names. The tests go in the order of their numbers: the count, each name's
 /// length, each name's bytes, and that the names of all files differ.
+// `using`: the examples are proved at each return alike, and so they have no proof file
+#[tactic(auto, using(crate::proofs::Cases::examples))]
 pub fn checked(list: &[&[u8]]) -> Result<Names, Refusal>
-    ensures { MatchResult result (λ n. Checked (texts list.now) (names_of n)) (λ e. Refused e (texts list.now)) }
+    ensures answer { MatchResult result (λ n. Checked (texts list.now) (names_of n)) (λ e. Refused e (texts list.now)) }
+    ensures examples { Examples }
 {
     if !(1..=DATABASES).contains(&list.len()) {
         return Err(Refusal::NameCount);

@@ -2,8 +2,9 @@
 ghost use Rattle.std.specs.Prelude.{◌≡◌, ℕ, ◌*◌, ◌<◌, ◌≤◌, min, true, List, [], All, length, is_some, MatchOption, MatchResult, slice_index};
 ghost use Rattle.std.specs.Option.{option_map};
 ghost use Rattle.pager.specs.Changed.{look};
+ghost use Rattle.pager.specs.Examples.{Examples};
 ghost use Rattle.pager.specs.Machine.{cleared};
-ghost use Rattle.page_map.specs.Listed.{above};
+ghost use Rattle.page_map.specs.Listed.{above, EachOnce};
 ghost use Rattle.page_map.specs.Walks.{left};
 ghost use Rattle.page_map.specs.Sets.{counted, NoneAbove, NextAbove, VisitLaw};
 ghost use Rattle.pager.specs.Sound.{map_of};
@@ -36,11 +37,14 @@ impl Memory {
     }
 
     /// Starts anew on databases of these sizes in pages: nothing is changed, and no savepoint stands.
+    // The machine's examples stand on this call, since the check proves its other clauses by itself: theirs is
+    // the only proof that is written.
     pub fn clear(&mut self, sizes: [u32; DATABASES])
         ensures count { self.new.count ≡ self.old.count }
         ensures sizes { self.new.sizes ≡ sizes }
         ensures empty { (self.new.changed.rows.items ≡ []) × (self.new.saved.rows.items ≡ []) }
         ensures view { (files : ℕ → List ℕ) → Stored files sizes → view files self.new ≡ cleared files }
+        ensures examples { Examples }
     {
         *self = Memory::new(self.count, sizes);
     }
@@ -96,11 +100,12 @@ impl Memory {
         Ok(self.maps[database].next_above(page))
     }
 
-    /// The changed pages of a database, in ascending order; none of a database that is not there.
+    /// The changed pages of a database, each once, in ascending order; none of a database that is not there.
     pub fn changed_pages(&self, database: usize) -> Pages<'_>
         ensures is { left result ≡ above (map_of self.now.maps database) 0 4096 }
         ensures few { length (left result) ≤ 32 }
         ensures held { All (λ p. is_some (look (fields self.now).changed database p) ≡ true) (left result) }
+        ensures once { EachOnce (map_of self.now.maps database) (left result) }
     {
         Pages::new(self.maps.get(database))
     }
