@@ -4,7 +4,7 @@ use card::Card;
 use card::CardCall::{Create, Length, Sync};
 use card::Cause::{Device, Power, Present};
 use cards::{DelayedCard, TroubleLayer, Untold};
-use halves::Kept;
+use halves::Kept::{self, Current, Mixed, Synced};
 use std::test::Fail;
 
 /// Two halves of 16 slots, with 8 bytes for each file.
@@ -13,11 +13,17 @@ const IMAGE: usize = 1440;
 /// A call that power fails in.
 #[derive(Clone, Copy, Debug)]
 enum Last {
+    /// Of "XYZW" to f, from byte 1 on.
     Write,
+    /// Of f to 6 bytes.
     Lengthen,
+    /// Of f to 1 byte.
     Shorten,
+    /// Of g.
     Create,
+    /// Of f.
     Delete,
+    /// Of f.
     Sync,
 }
 
@@ -27,36 +33,24 @@ type Left = (Option<u32>, Option<u32>, [u8; 8]);
 /// Calls that power failed in on a file f that held "abcd", of which "ab" was synced, and no file g: the call, what
 /// the card keeps, and what is left.
 const CUTS: [(Last, Kept, Left); 18] = [
-    (Last::Write, Kept::Synced, (Some(2), None, *b"ab------")),
-    (Last::Write, Kept::Current, (Some(5), None, *b"aXYZW---")),
-    (Last::Write, Kept::Mixed, (Some(5), None, *b"abY\0W---")),
-    (Last::Lengthen, Kept::Synced, (Some(2), None, *b"ab------")),
-    (
-        Last::Lengthen,
-        Kept::Current,
-        (Some(6), None, *b"abcd\0\0--"),
-    ),
-    (
-        Last::Lengthen,
-        Kept::Mixed,
-        (Some(6), None, *b"abc\0\0\0--"),
-    ),
-    (Last::Shorten, Kept::Synced, (Some(2), None, *b"ab------")),
-    (Last::Shorten, Kept::Current, (Some(1), None, *b"a-------")),
-    (Last::Shorten, Kept::Mixed, (Some(2), None, *b"ab------")),
-    (Last::Create, Kept::Synced, (Some(2), None, *b"ab------")),
-    (
-        Last::Create,
-        Kept::Current,
-        (Some(4), Some(0), *b"abcd----"),
-    ),
-    (Last::Create, Kept::Mixed, (Some(4), Some(0), *b"abc\0----")),
-    (Last::Delete, Kept::Synced, (Some(2), None, *b"ab------")),
-    (Last::Delete, Kept::Current, (None, None, *b"--------")),
-    (Last::Delete, Kept::Mixed, (None, None, *b"--------")),
-    (Last::Sync, Kept::Synced, (Some(2), None, *b"ab------")),
-    (Last::Sync, Kept::Current, (Some(4), None, *b"abcd----")),
-    (Last::Sync, Kept::Mixed, (Some(4), None, *b"abcd----")),
+    (Last::Write, Synced, (Some(2), None, *b"ab------")),
+    (Last::Write, Current, (Some(5), None, *b"aXYZW---")),
+    (Last::Write, Mixed, (Some(5), None, *b"abY\0W---")),
+    (Last::Lengthen, Synced, (Some(2), None, *b"ab------")),
+    (Last::Lengthen, Current, (Some(6), None, *b"abcd\0\0--")),
+    (Last::Lengthen, Mixed, (Some(6), None, *b"abc\0\0\0--")),
+    (Last::Shorten, Synced, (Some(2), None, *b"ab------")),
+    (Last::Shorten, Current, (Some(1), None, *b"a-------")),
+    (Last::Shorten, Mixed, (Some(2), None, *b"ab------")),
+    (Last::Create, Synced, (Some(2), None, *b"ab------")),
+    (Last::Create, Current, (Some(4), Some(0), *b"abcd----")),
+    (Last::Create, Mixed, (Some(4), Some(0), *b"abc\0----")),
+    (Last::Delete, Synced, (Some(2), None, *b"ab------")),
+    (Last::Delete, Current, (None, None, *b"--------")),
+    (Last::Delete, Mixed, (None, None, *b"--------")),
+    (Last::Sync, Synced, (Some(2), None, *b"ab------")),
+    (Last::Sync, Current, (Some(4), None, *b"abcd----")),
+    (Last::Sync, Mixed, (Some(4), None, *b"abcd----")),
 ];
 
 /// What is left after power failed in a call.

@@ -36,10 +36,11 @@ fn names_have_1_to_32_bytes(rt: HostRuntime) {
 }
 
 #[test]
-fn a_file_fills_its_slot_and_no_more(rt: HostRuntime) {
+fn a_file_fills_its_slot_and_no_more_and_grows_by_zeros(rt: HostRuntime) {
     let mut image = [0xffu8; SMALL];
     let mut card = DirectCard::new(&mut image, 9);
-    let mut bytes = [0u8; 3];
+    let mut full = [0u8; 3];
+    let mut grown = [9u8; 3];
     check(
         &rt,
         &[
@@ -51,10 +52,13 @@ fn a_file_fills_its_slot_and_no_more(rt: HostRuntime) {
                 card.set_length(b"a", 2_097_153),
                 refused(SetLength, Range, 9),
             ),
-            (card.read(b"a", 0, &mut bytes), Ok(())),
+            (card.read(b"a", 0, &mut full), Ok(())),
+            (card.set_length(b"a", 1), Ok(())),
+            (card.set_length(b"a", 3), Ok(())),
+            (card.read(b"a", 0, &mut grown), Ok(())),
         ],
     );
-    assert_eq!(rt; bytes, *b"xyz");
+    assert_eq!(rt; [full, grown], [*b"xyz", [b'x', 0, 0]]);
 }
 
 #[test]
@@ -138,22 +142,4 @@ fn a_name_is_not_its_prefix(rt: HostRuntime) {
             ),
         ],
     );
-}
-
-#[test]
-fn a_longer_file_is_filled_with_zeros(rt: HostRuntime) {
-    let mut image = [0xffu8; SMALL];
-    let mut card = DirectCard::new(&mut image, 9);
-    let mut bytes = [9u8; 3];
-    check(
-        &rt,
-        &[
-            (card.create(b"a"), Ok(())),
-            (card.write(b"a", 0, b"xyz"), Ok(())),
-            (card.set_length(b"a", 1), Ok(())),
-            (card.set_length(b"a", 3), Ok(())),
-            (card.read(b"a", 0, &mut bytes), Ok(())),
-        ],
-    );
-    assert_eq!(rt; bytes, [b'x', 0, 0]);
 }

@@ -77,15 +77,17 @@ fn what_a_journal_cannot_be_is_refused(rt: HostRuntime) {
 #[test]
 fn a_super_journal_is_read_back(rt: HostRuntime) {
     let mut buffer = [7u8; 32];
+    // the second list is refused, and leaves the first
     assert_eq!(rt;
-        put_names(&mut buffer, &[b"a-journal", b"b-journal"]),
-        Ok(20)
+        [
+            put_names(&mut buffer, &[b"a-journal", b"b-journal"]),
+            put_names(&mut buffer, &[b"a\0b"])
+        ],
+        [Ok(20), Err(Unfit::Limit)]
     );
-    // each name ends with its zero byte
     assert_eq!(rt; &buffer[0..20], b"a-journal\0b-journal\0".as_slice());
     let names = read_names(&buffer[0..20]).expect(&rt, "a super-journal");
     let both: [&[u8]; 2] = [b"a-journal", b"b-journal"];
     assert_eq!(rt; names.as_slice(), both.as_slice());
     assert!(rt; read_names(&buffer[0..19]).is_none());
-    assert_eq!(rt; put_names(&mut buffer, &[b"a\0b"]), Err(Unfit::Limit));
 }

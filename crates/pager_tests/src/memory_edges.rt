@@ -1,6 +1,7 @@
 // A transaction's memory at its limits.
 use pager::Memory;
 use refusal::Refusal;
+use std::process::Abort;
 
 /// A page of one byte value.
 const PAGE: [u8; 512] = [7; 512];
@@ -75,39 +76,58 @@ fn eight_savepoints_stand(rt: HostRuntime) {
     }
 }
 
+/// Checks a savepoint by its number, writes of pages after it, each of a database, and how many pages are
+/// saved then.
+fn check_savepoint(
+    rt: &impl Abort,
+    m: &mut Memory,
+    number: usize,
+    writes: &[(usize, u32)],
+    saved: usize,
+) {
+    assert_eq!(rt; m.push(), Ok(number));
+    for (database, page) in writes {
+        assert_eq!(rt;
+            m.write(*database, *page, &PAGE),
+            Ok(()),
+            "page {page} of {database} after {number}"
+        );
+    }
+    assert_eq!(rt; m.saved_count(), saved, "after {number}");
+}
+
 #[test]
 fn a_page_is_saved_once(rt: HostRuntime) {
     let mut m = Memory::new(1, [0; 4]);
-    // two savepoints, each with the pages that are written after it, and how many are saved then
-    for (k, writes) in [(1, [(1, 1), (1, 1)]), (2, [(1, 2), (2, 3)])] {
-        assert_eq!(rt; m.push(), Ok(k));
-        for (page, saved) in writes {
-            assert_eq!(rt;
-                (m.write(0, page, &PAGE), m.saved_count()),
-                (Ok(()), saved),
-                "page {page} in {k}"
-            );
-        }
-    }
+    check_savepoint(&rt, &mut m, 1, &[(0, 1), (0, 1)], 1);
+    check_savepoint(&rt, &mut m, 2, &[(0, 1), (0, 2)], 3);
     for (k, saved) in [(2, 2), (1, 0)] {
         assert_eq!(rt; (m.release(k), m.saved_count()), (Ok(()), saved), "{k}");
     }
     assert_eq!(rt; m.size(0), Ok(2));
 }
 
+/// The first eight pages of the first database.
+const EIGHT: [(usize, u32); 8] = [
+    (0, 1),
+    (0, 2),
+    (0, 3),
+    (0, 4),
+    (0, 5),
+    (0, 6),
+    (0, 7),
+    (0, 8),
+];
+
 #[test]
 fn savepoints_share_32_saved_pages(rt: HostRuntime) {
     let mut m = Memory::new(1, [0; 4]);
-    // a savepoint's number is what the call tells, and a page goes by number in a call
-    for k in 1..=4 {
-        assert_eq!(rt; m.push(), Ok(k));
-        for p in 1..=8 {
-            assert_eq!(rt; m.write(0, p, &PAGE), Ok(()));
-        }
+    for (k, saved) in [(1, 8), (2, 16), (3, 24), (4, 32)] {
+        check_savepoint(&rt, &mut m, k, &EIGHT, saved);
     }
     assert_eq!(rt;
-        (m.saved_count(), m.write(0, 8, &PAGE), m.write(0, 9, &PAGE)),
-        (32, Ok(()), Err(Refusal::SavedFull))
+        [m.write(0, 8, &PAGE), m.write(0, 9, &PAGE)],
+        [Ok(()), Err(Refusal::SavedFull)]
     );
     assert_eq!(rt;
         (m.release(2), m.saved_count(), m.write(0, 9, &PAGE)),
@@ -119,20 +139,11 @@ fn savepoints_share_32_saved_pages(rt: HostRuntime) {
 fn sizes_grow_over_nested_savepoints_and_shrink_when_cleared(rt: HostRuntime) {
     let start = [3, 0, 4095, 1];
     let mut m = Memory::new(4, start);
-    // two savepoints, each with the pages that are written after it
-    let rounds: [(usize, &[(usize, u32)]); 2] = [
-        (1, &[(0, 4), (1, 1), (2, 4096), (3, 2)]),
-        (2, &[(0, 5), (1, 2), (3, 3)]),
-    ];
-    for (k, writes) in rounds {
-        assert_eq!(rt; m.push(), Ok(k));
-        for (d, page) in writes {
-            assert_eq!(rt; m.write(*d, *page, &PAGE), Ok(()), "page {page} of {d}");
-        }
-    }
+    check_savepoint(&rt, &mut m, 1, &[(0, 4), (1, 1), (2, 4096), (3, 2)], 4);
+    check_savepoint(&rt, &mut m, 2, &[(0, 5), (1, 2), (3, 3)], 7);
     assert_eq!(rt;
-        (m.saved_count(), m.release(2), m.saved_count(), m.sizes()),
-        (7, Ok(()), 7, [5, 2, 4096, 3])
+        (m.release(2), m.saved_count(), m.sizes()),
+        (Ok(()), 7, [5, 2, 4096, 3])
     );
     // the only call that makes a database smaller: none steps back to a savepoint
     m.clear(start);
