@@ -1,5 +1,5 @@
 // The direct card at its limits.
-use crate::refused::refused;
+use crate::answers::{check, refused};
 use card::Card;
 use card::CardCall::{Create, Delete, Length, Read, SetLength, Sync, Write};
 use card::Cause::{Absent, Device, Present, Range};
@@ -12,47 +12,74 @@ const SMALL: usize = 640;
 fn names_have_1_to_32_bytes(rt: HostRuntime) {
     let mut image = [0xffu8; SMALL];
     let mut card = DirectCard::new(&mut image, 9);
-    let name = [b'n'; 33];
-    assert_eq!(rt; card.create(&name[0..32]), Ok(()));
-    assert_eq!(rt; card.length(&name[0..32]), Ok(Some(0)));
-    assert_eq!(rt; card.create(&name), refused(Create, Range, 9));
-    assert_eq!(rt; card.length(&name), refused(Length, Range, 9));
-    assert_eq!(rt; card.length(b""), refused(Length, Range, 9));
-    assert_eq!(rt; card.delete(b""), refused(Delete, Range, 9));
+    let letters = [b'n'; 33];
+    for length in [1, 32] {
+        let name = &letters[0..length];
+        assert_eq!(rt;
+            (card.create(name), card.length(name)),
+            (Ok(()), Ok(Some(0))),
+            "{length} bytes"
+        );
+    }
+    for length in [0, 33] {
+        let name = &letters[0..length];
+        assert_eq!(rt;
+            (card.create(name), card.length(name), card.delete(name)),
+            (
+                refused(Create, Range, 9),
+                refused(Length, Range, 9),
+                refused(Delete, Range, 9)
+            ),
+            "{length} bytes"
+        );
+    }
 }
 
 #[test]
-fn a_file_fills_its_slot_and_no_more(rt: HostRuntime) {
+fn a_file_fills_its_slot_and_no_more_and_grows_by_zeros(rt: HostRuntime) {
     let mut image = [0xffu8; SMALL];
     let mut card = DirectCard::new(&mut image, 9);
-    assert_eq!(rt; card.create(b"a"), Ok(()));
-    assert_eq!(rt; card.write(b"a", 0, b"xyz"), Ok(()));
-    assert_eq!(rt; card.write(b"a", 0, b"wxyz"), refused(Write, Device, 9));
-    assert_eq!(rt; card.set_length(b"a", 4), refused(SetLength, Device, 9));
-    assert_eq!(rt;
-        card.set_length(b"a", 2_097_153),
-        refused(SetLength, Range, 9)
+    let mut full = [0u8; 3];
+    let mut grown = [9u8; 3];
+    check(
+        &rt,
+        &[
+            (card.create(b"a"), Ok(())),
+            (card.write(b"a", 0, b"xyz"), Ok(())),
+            (card.write(b"a", 0, b"wxyz"), refused(Write, Device, 9)),
+            (card.set_length(b"a", 4), refused(SetLength, Device, 9)),
+            (
+                card.set_length(b"a", 2_097_153),
+                refused(SetLength, Range, 9),
+            ),
+            (card.read(b"a", 0, &mut full), Ok(())),
+            (card.set_length(b"a", 1), Ok(())),
+            (card.set_length(b"a", 3), Ok(())),
+            (card.read(b"a", 0, &mut grown), Ok(())),
+        ],
     );
-    let mut bytes = [0u8; 3];
-    assert_eq!(rt; card.read(b"a", 0, &mut bytes), Ok(()));
-    assert_eq!(rt; bytes, *b"xyz");
+    assert_eq!(rt; [full, grown], [*b"xyz", [b'x', 0, 0]]);
 }
 
 #[test]
 fn a_place_is_at_the_end_or_before_it(rt: HostRuntime) {
     let mut image = [0xffu8; SMALL];
     let mut card = DirectCard::new(&mut image, 9);
-    assert_eq!(rt; card.create(b"a"), Ok(()));
-    assert_eq!(rt; card.write(b"a", 0, b"xy"), Ok(()));
-    assert_eq!(rt; card.write(b"a", 2, b""), Ok(()));
-    assert_eq!(rt; card.write(b"a", 3, b""), refused(Write, Range, 9));
-    assert_eq!(rt; card.read(b"a", 2, &mut []), Ok(()));
-    assert_eq!(rt; card.read(b"a", 3, &mut []), refused(Read, Range, 9));
     let mut byte = [7u8; 1];
-    assert_eq!(rt; card.read(b"a", 2, &mut byte), refused(Read, Range, 9));
-    assert_eq!(rt; byte, [7u8; 1]);
-    assert_eq!(rt; card.write(b"a", 2, b"z"), Ok(()));
-    assert_eq!(rt; card.length(b"a"), Ok(Some(3)));
+    check(
+        &rt,
+        &[
+            (card.create(b"a"), Ok(())),
+            (card.write(b"a", 0, b"xy"), Ok(())),
+            (card.write(b"a", 2, b""), Ok(())),
+            (card.write(b"a", 3, b""), refused(Write, Range, 9)),
+            (card.read(b"a", 2, &mut []), Ok(())),
+            (card.read(b"a", 3, &mut []), refused(Read, Range, 9)),
+            (card.read(b"a", 2, &mut byte), refused(Read, Range, 9)),
+            (card.write(b"a", 2, b"z"), Ok(())),
+        ],
+    );
+    assert_eq!(rt; (byte, card.length(b"a")), ([7u8; 1], Ok(Some(3))));
 }
 
 #[test]
@@ -63,51 +90,56 @@ fn a_17th_file_finds_no_slot(rt: HostRuntime) {
     for name in b'a'..=b'p' {
         assert_eq!(rt; card.create(&[name]), Ok(()));
     }
-    assert_eq!(rt; card.create(b"q"), refused(Create, Device, 9));
-    assert_eq!(rt; card.create(b"a"), refused(Create, Present, 9));
-    assert_eq!(rt; card.delete(b"h"), Ok(()));
-    assert_eq!(rt; card.create(b"q"), Ok(()));
+    check(
+        &rt,
+        &[
+            (card.create(b"q"), refused(Create, Device, 9)),
+            (card.create(b"a"), refused(Create, Present, 9)),
+            (card.delete(b"h"), Ok(())),
+            (card.create(b"q"), Ok(())),
+        ],
+    );
     assert_eq!(rt; card.length(b"h"), Ok(None));
 }
 
 #[test]
-fn an_image_of_15_bytes_has_no_slot(rt: HostRuntime) {
+fn an_image_of_0_or_15_bytes_has_no_slot(rt: HostRuntime) {
     let mut image = [0xffu8; 15];
-    let mut card = DirectCard::new(&mut image, 9);
-    assert_eq!(rt; card.create(b"a"), refused(Create, Device, 9));
-    assert_eq!(rt; card.length(b"a"), Ok(None));
-    assert_eq!(rt; card.sync(b"a"), refused(Sync, Absent, 9));
-}
-
-#[test]
-fn an_image_of_0_bytes_is_safe(rt: HostRuntime) {
-    let mut image = [0u8; 0];
-    let mut card = DirectCard::new(&mut image, 9);
-    assert_eq!(rt; card.create(b"a"), refused(Create, Device, 9));
+    for size in [0, 15] {
+        let mut card = DirectCard::new(&mut image[0..size], 9);
+        assert_eq!(rt;
+            (card.create(b"a"), card.length(b"a"), card.sync(b"a")),
+            (
+                refused(Create, Device, 9),
+                Ok(None),
+                refused(Sync, Absent, 9)
+            ),
+            "{size} bytes"
+        );
+    }
 }
 
 #[test]
 fn a_name_is_not_its_prefix(rt: HostRuntime) {
     let mut image = [0xffu8; SMALL];
     let mut card = DirectCard::new(&mut image, 9);
-    assert_eq!(rt; card.create(b"ab"), Ok(()));
-    assert_eq!(rt; card.length(b"a"), Ok(None));
-    assert_eq!(rt; card.create(b"a"), Ok(()));
-    assert_eq!(rt; card.write(b"a", 0, b"1"), Ok(()));
-    assert_eq!(rt; card.length(b"ab"), Ok(Some(0)));
-    assert_eq!(rt; card.delete(b"ab"), Ok(()));
-    assert_eq!(rt; card.length(b"a"), Ok(Some(1)));
-}
-
-#[test]
-fn a_longer_file_is_filled_with_zeros(rt: HostRuntime) {
-    let mut image = [0xffu8; SMALL];
-    let mut card = DirectCard::new(&mut image, 9);
-    assert_eq!(rt; card.create(b"a"), Ok(()));
-    assert_eq!(rt; card.write(b"a", 0, b"xyz"), Ok(()));
-    assert_eq!(rt; card.set_length(b"a", 1), Ok(()));
-    assert_eq!(rt; card.set_length(b"a", 3), Ok(()));
-    let mut bytes = [9u8; 3];
-    assert_eq!(rt; card.read(b"a", 0, &mut bytes), Ok(()));
-    assert_eq!(rt; bytes, [b'x', 0, 0]);
+    // a call on the one file, and then the length of the other
+    check(
+        &rt,
+        &[
+            ((card.create(b"ab"), card.length(b"a")), (Ok(()), Ok(None))),
+            (
+                (card.create(b"a"), card.length(b"ab")),
+                (Ok(()), Ok(Some(0))),
+            ),
+            (
+                (card.write(b"a", 0, b"1"), card.length(b"ab")),
+                (Ok(()), Ok(Some(0))),
+            ),
+            (
+                (card.delete(b"ab"), card.length(b"a")),
+                (Ok(()), Ok(Some(1))),
+            ),
+        ],
+    );
 }

@@ -2,8 +2,8 @@
 #![tactic(auto)]
 
 #[cfg(test)]
+mod answers;
+#[cfg(test)]
 mod delayed_edges;
 #[cfg(test)]
 mod direct_edges;
-#[cfg(test)]
-mod refused;

@@ -1,8 +1,6 @@
 // A journal in a buffer, and what is made of it.
 use journal::{Sound, Span, Verdict, judge};
 use journal_writer::{Unfit, fill_journal, put_count};
-use std::process::Abort;
-use std::test::Fail;
 use super_journal::{put_names, read_names};
 
 /// A journal of the zero page 1 that names a super-journal.
@@ -21,82 +19,75 @@ pub fn sound(length: usize) -> Verdict {
     })
 }
 
-/// The journal that names a-mj, without its count.
-fn filled(rt: &impl Abort) -> [u8; LONG] {
+#[test]
+fn a_journal_is_sound_just_with_its_count_and_all_its_bytes(rt: HostRuntime) {
     let mut buffer = [0u8; LONG];
     assert_eq!(rt;
-        fill_journal(&mut buffer, 7, 1, &[1], Some(b"a-mj")),
-        Ok(LONG)
+        (
+            fill_journal(&mut buffer, 7, 1, &[1], Some(b"a-mj")),
+            judge(&buffer)
+        ),
+        (Ok(LONG), Verdict::Spent)
     );
-    buffer
-}
-
-#[test]
-fn a_journal_is_spent_until_it_has_its_count(rt: HostRuntime) {
-    let mut buffer = filled(&rt);
-    assert_eq!(rt; judge(&buffer), Verdict::Spent);
-    assert_eq!(rt; put_count(&mut buffer, 1), Ok(()));
-    assert_eq!(rt; judge(&buffer), sound(4));
-    assert_eq!(rt; judge(&buffer[0..1055]), Verdict::Damaged { record: 0 });
-    assert_eq!(rt; judge(&buffer[0..511]), Verdict::Spent);
-    assert_eq!(rt; put_count(&mut buffer, 2), Ok(()));
-    assert_eq!(rt; judge(&buffer), Verdict::Damaged { record: 0 });
-}
-
-#[test]
-fn a_flipped_byte_is_found(rt: HostRuntime) {
-    let mut buffer = filled(&rt);
-    assert_eq!(rt; put_count(&mut buffer, 1), Ok(()));
-    for (place, verdict) in [
-        (0, Verdict::Spent),
-        (500, Verdict::Damaged { record: 0 }),
-        (516 + 312, Verdict::Damaged { record: 1 }),
-        (1036, Verdict::Damaged { record: 0 }),
+    // the count that it is given, the place of a byte, the bits of it that are flipped, the length that the
+    // journal is cut to, and the verdict
+    for (count, place, bits, length, verdict) in [
+        (1, 0, 0, LONG, sound(4)),
+        (1, 0, 0, 1055, Verdict::Damaged { record: 0 }),
+        (1, 0, 0, 511, Verdict::Spent),
+        (2, 0, 0, LONG, Verdict::Damaged { record: 0 }),
+        (1, 0, 1, LONG, Verdict::Spent),
+        (1, 500, 1, LONG, Verdict::Damaged { record: 0 }),
+        (1, 516 + 312, 1, LONG, Verdict::Damaged { record: 1 }),
+        (1, 1036, 1, LONG, Verdict::Damaged { record: 0 }),
     ] {
-        let mut flipped = buffer;
-        flipped[place] ^= 1;
-        assert_eq!(rt; judge(&flipped), verdict, "at {place}");
+        assert_eq!(rt; put_count(&mut buffer, count), Ok(()));
+        let mut harmed = buffer;
+        harmed[place] ^= bits;
+        assert_eq!(rt;
+            judge(&harmed[0..length]),
+            verdict,
+            "count {count}, {bits} at {place}, length {length}"
+        );
     }
-    assert_eq!(rt; judge(&buffer), sound(4));
 }
+
+/// Journals that name m: the size of the database, the pages, and what is answered where there is room for
+/// `LONG` bytes.
+const FILLS: [(u32, &[u32], Result<usize, Unfit>); 5] = [
+    (1, &[2], Err(Unfit::Limit)),
+    (3, &[1, 3, 3], Err(Unfit::Limit)),
+    (3, &[1, 3], Err(Unfit::Room)),
+    (4097, &[1], Err(Unfit::Limit)),
+    (1, &[1], Ok(1053)),
+];
 
 #[test]
 fn what_a_journal_cannot_be_is_refused(rt: HostRuntime) {
     let mut buffer = [0u8; LONG];
-    let name: Option<&[u8]> = Some(b"m");
-    assert_eq!(rt;
-        fill_journal(&mut buffer, 7, 1, &[2], name),
-        Err(Unfit::Limit)
-    );
-    assert_eq!(rt;
-        fill_journal(&mut buffer, 7, 3, &[1, 3, 3], name),
-        Err(Unfit::Limit)
-    );
-    assert_eq!(rt;
-        fill_journal(&mut buffer, 7, 3, &[1, 3], name),
-        Err(Unfit::Room)
-    );
-    assert_eq!(rt;
-        fill_journal(&mut buffer, 7, 4097, &[1], name),
-        Err(Unfit::Limit)
-    );
-    assert_eq!(rt; fill_journal(&mut buffer, 7, 1, &[1], name), Ok(1053));
+    for (size, pages, answer) in FILLS {
+        assert_eq!(rt;
+            fill_journal(&mut buffer, 7, size, pages, Some(b"m")),
+            answer,
+            "{pages:?} of {size}"
+        );
+    }
 }
 
 #[test]
-fn a_super_journal_is_read_back(rt: HostRuntime) -> Result<(), Fail> {
+fn a_super_journal_is_read_back(rt: HostRuntime) {
     let mut buffer = [7u8; 32];
+    // the second list is refused, and leaves the first
     assert_eq!(rt;
-        put_names(&mut buffer, &[b"a-journal", b"b-journal"]),
-        Ok(20)
+        [
+            put_names(&mut buffer, &[b"a-journal", b"b-journal"]),
+            put_names(&mut buffer, &[b"a\0b"])
+        ],
+        [Ok(20), Err(Unfit::Limit)]
     );
-    let names = read_names(&buffer[0..20]).ok_or("no super-journal")?;
-    assert_eq!(rt; names.len(), 2);
-    assert_eq!(rt; names.as_slice()[0], b"a-journal".as_slice());
-    assert_eq!(rt; names.as_slice()[1], b"b-journal".as_slice());
-    // the second begins past the first and its zero byte
-    assert_eq!(rt; names.as_slice()[1], &buffer[10..19]);
+    assert_eq!(rt; &buffer[0..20], b"a-journal\0b-journal\0".as_slice());
+    let names = read_names(&buffer[0..20]).expect(&rt, "a super-journal");
+    let both: [&[u8]; 2] = [b"a-journal", b"b-journal"];
+    assert_eq!(rt; names.as_slice(), both.as_slice());
     assert!(rt; read_names(&buffer[0..19]).is_none());
-    assert_eq!(rt; put_names(&mut buffer, &[b"a\0b"]), Err(Unfit::Limit));
-    Ok(())
 }

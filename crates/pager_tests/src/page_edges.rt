@@ -24,28 +24,14 @@ const EDGES: [(u32, u32, Result<(), Refusal>); 18] = [
     (4096, 4294967295, Err(Refusal::Page)),
 ];
 
-/// What a write of one page is answered.
-fn answer(memory: &mut Memory, page: u32) -> Result<(), Refusal> {
-    memory.write(0, page, &[7; 512])
-}
-
 #[test]
-fn each_edge_is_answered_as_the_table_says(rt: HostRuntime) {
-    for (size, page, expected) in EDGES {
+fn each_edge_is_answered_as_the_table_says_and_a_written_page_is_the_one_changed(rt: HostRuntime) {
+    for (size, page, answer) in EDGES {
         let mut memory = Memory::new(1, [size, 0, 0, 0]);
         assert_eq!(rt;
-            answer(&mut memory, page),
-            expected,
+            (memory.write(0, page, &[7; 512]), memory.next_changed(0, 0)),
+            (answer, Ok(answer.is_ok().then_some(page))),
             "page {page} of {size}"
         );
-    }
-}
-
-#[test]
-fn each_written_page_is_the_one_changed_page(rt: HostRuntime) {
-    for (size, page, _) in EDGES {
-        let mut memory = Memory::new(1, [size, 0, 0, 0]);
-        let changed = answer(&mut memory, page).ok().map(|()| page);
-        assert_eq!(rt; memory.next_changed(0, 0), Ok(changed));
     }
 }
