@@ -12,7 +12,7 @@ use Rattle.commit.specs.Ended.{Committed}
 use Rattle.store.specs.declared.set.Set.{Set}
 use Rattle.store.specs.declared.mode.Mode.{Mode}
 use Rattle.store.specs.declared.mode.Mode.TheVariants.{Cold, Ready, Running}
-use Rattle.store.specs.declared.mode.Call.TheVariants.{End}
+use Rattle.store.specs.declared.mode.Call.TheVariants.{Use}
 use Rattle.store.specs.Modes.{counted}
 use Rattle.store.specs.Calls.{told}
 use Rattle.store.specs.Commits.{nonce_of, Concluded, Commits}
@@ -57,7 +57,7 @@ module _ {C : Type 0} (m : Meaning C) where
       })
 
 -- the end of a transaction begins none
-pub counted_end : (mode : Mode) (begun number : ℕ) → counted mode begun (End number) ≡ begun
+pub counted_end : (mode : Mode) (begun number : ℕ) → counted mode begun (Use number) ≡ begun
 counted_end Cold begun number = refl
 counted_end Ready begun number = refl
 counted_end (Running n k) begun number = refl

@@ -3,9 +3,10 @@ ghost use Rattle.std.specs.Prelude.{◌≡◌, true, None};
 ghost use Rattle.refusal.specs.Results.{refused};
 ghost use Rattle.store.specs.Modes.{next, counted, says, given};
 ghost use Rattle.store.specs.Calls.{Fresh, KeptIfRefused, ButMode, ButRun};
-ghost use Rattle.store.specs.declared.mode.Call.TheVariants.{Begin, End};
+ghost use Rattle.store.specs.declared.mode.Mode.TheVariants.{Ready};
+ghost use Rattle.store.specs.declared.mode.Call.TheVariants.{Begin, Use};
 
-use crate::mode::Call;
+use crate::mode::{Call, Mode};
 use crate::set::Set;
 use crate::transaction::Transaction;
 use refusal::Refusal;
@@ -29,16 +30,16 @@ impl<C> Set<C> {
 
     /// Ends a transaction and drops what it changed. The token is taken also when the call is refused.
     pub fn rollback(&mut self, t: Transaction) -> Result<(), Refusal>
-        ensures refusal { refused result ≡ says self.old.mode self.old.begun (End t.number) }
+        ensures refusal { refused result ≡ says self.old.mode self.old.begun (Use t.number) }
         ensures kept { KeptIfRefused result self.old self.new }
-        ensures mode { self.new.mode ≡ next self.old.mode self.old.begun (End t.number) }
+        ensures mode { refused result ≡ None → self.new.mode ≡ Ready }
         ensures fresh { refused result ≡ None → Fresh self.old.memory self.old.stored.rows self.new.memory }
         ensures stored { self.new.stored ≡ self.old.stored }
         ensures others { ButRun self.old self.new }
     {
         let number = t.end();
-        self.admit(Call::End { number })?;
-        self.memory.clear(self.stored.rows());
+        self.admit(Call::Use { number })?;
+        self.clear(Mode::Ready, self.stored);
         Ok(())
     }
 }
