@@ -2,6 +2,7 @@
 ghost use Rattle.std.specs.Prelude.{◌≡◌};
 ghost use Rattle.names.specs.Files.{how_many};
 ghost use Rattle.sizes.specs.Fitting.{Fitting};
+ghost use Rattle.store.specs.Between.{Live, Rested};
 
 use crate::mode::Mode;
 use journal::JOURNAL_LIMIT;
@@ -33,6 +34,8 @@ pub struct Set<C> {
     buffer: [u8; JOURNAL_LIMIT],
     ghost tied: { memory.count ≡ how_many names },
     ghost fitting: { Fitting memory.sizes },
+    ghost live: { Live mode begun },
+    ghost rest: { Rested mode memory stored.rows },
 }
 
 // With a card of no bytes the set takes at most 64 KiB.

@@ -1,7 +1,8 @@
 // The two ends of a transaction: its begin, and its rollback.
-ghost use Rattle.std.specs.Prelude.{◌≡◌, true, None};
+ghost use Rattle.std.specs.Prelude.{◌≡◌, ◌≢◌, true, None};
 ghost use Rattle.refusal.specs.Results.{refused};
 ghost use Rattle.store.specs.Modes.{next, counted, says, given};
+ghost use Rattle.store.specs.Between.{AsStored};
 ghost use Rattle.store.specs.Calls.{Fresh, KeptIfRefused, ButMode, ButRun};
 ghost use Rattle.store.specs.declared.mode.Mode.TheVariants.{Ready};
 ghost use Rattle.store.specs.declared.mode.Call.TheVariants.{Begin, Use};
@@ -12,13 +13,14 @@ use crate::transaction::Transaction;
 use refusal::Refusal;
 
 impl<C> Set<C> {
-    /// Begins a transaction. It is never refused: on a set that is not ready, or has begun 4,294,967,295
+    /// Begins a transaction on what is stored. It is never refused: on a set that is not ready, or has begun 4,294,967,295
     /// transactions, the token is void, its number 0, and the set is as it was.
     pub fn begin(&mut self, nonce: u32) -> Transaction
         ensures number { result.number ≡ given self.old.mode self.old.begun }
         ensures live { result.«open» ≡ true }
         ensures mode { self.new.mode ≡ next self.old.mode self.old.begun (Begin nonce) }
         ensures begun { self.new.begun ≡ counted self.old.mode self.old.begun (Begin nonce) }
+        ensures start { result.number ≢ 0 → AsStored self.new.memory self.old.stored.rows }
         ensures kept { result.number ≡ 0 → self.new ≡ self.old }
         ensures others { ButMode self.old self.new }
     {
