@@ -39,9 +39,7 @@ next Cold begun call = Cold
 next Ready begun (Begin nonce) = cond (can_count begun) (Running (begun + 1) nonce) Ready
 next Ready begun Read = Ready
 next Ready begun (Use asked) = Ready
-next (Running number nonce) begun (Begin other) = Running number nonce
-next (Running number nonce) begun Read = Running number nonce
-next (Running number nonce) begun (Use asked) = Running number nonce
+next (Running number nonce) begun call = Running number nonce
 
 -- how many transactions are begun after the call
 abbrev pub counted : Mode → ℕ → Call → ℕ
