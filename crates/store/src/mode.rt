@@ -8,7 +8,7 @@ pub enum Mode {
     Running { number: u32, nonce: u32 },
 }
 
-/// What a call asks of the mode: to begin a transaction, to read, or to use a transaction. Its end is a use too.
+/// What a call asks of the mode: to begin a transaction, to read, or to use a transaction. Ending one is a use of it.
 // An enum of calls, since the call is matched together with the mode, in place: a rule of the project
 // (docs/SET.md).
 #[derive(Clone, Copy)]

@@ -22,7 +22,8 @@ mod savepoint;
 mod write;
 
 /// A set of databases over a card. The sizes that are stored are those that the files have; those of
-/// the memory are those of the running transaction. `begun` counts the transactions.
+/// the memory are those of the running transaction, and the stored ones while none runs. `begun` counts the
+/// transactions: it is the number of the one that runs.
 #[derive(Drop)]
 pub struct Set<C> {
     card: C,

@@ -13,8 +13,8 @@ use crate::transaction::Transaction;
 use refusal::Refusal;
 
 impl<C> Set<C> {
-    /// Begins a transaction on what is stored. It is never refused: on a set that is not ready, or has begun 4,294,967,295
-    /// transactions, the token is void, its number 0, and the set is as it was.
+    /// Begins a transaction: nothing is changed, and no savepoint stands. It is never refused: on a set that is not
+    /// ready, or has begun 4,294,967,295 transactions, the token is void, its number 0, and the set is as it was.
     pub fn begin(&mut self, nonce: u32) -> Transaction
         ensures number { result.number ≡ given self.old.mode self.old.begun }
         ensures live { result.«open» ≡ true }
