@@ -1,5 +1,6 @@
 mod Kept
 mod Shown
 mod Bounds
+pub mod Filed
 pub mod Carried
 pub mod Sized

@@ -9,6 +9,7 @@ use Rattle.card.specs.Calls.{read, Worked, part, part_of, tested, name_ok}
 use Rattle.card.specs.Runs.{Act, through, Runs, end, next}
 use Rattle.card.proofs.Every.{not_lawful_absent}
 use Rattle.card.proofs.Tested.{lawful_read}
+use Rattle.names.specs.Files.{how_many}
 use Rattle.refusal.specs.declared.fault.SetFault.{SetFault}
 use Rattle.refusal.specs.declared.refusals.Refusal.{Refusal}
 use Rattle.pager.specs.declared.memory.Memory.{Memory}
@@ -20,6 +21,7 @@ use Rattle.steps.specs.Tasks.{task, Went, ToldBytes}
 use Rattle.store.specs.declared.set.Set.{Set}
 use Rattle.store.specs.Calls.{or_else, told}
 use Rattle.store.proofs.Kept.{passed}
+use Rattle.store.proofs.Filed.{of_database}
 use Rattle.sizes.specs.Fitting.{Fitting}
 use Rattle.journaling.specs.Changes.{contents}
 use Rattle.store.specs.Reads.{page_refusal, read_refusal, place, at_reading, file_of, files_of, FromCard, Reads, Shows}
@@ -80,8 +82,11 @@ module _ {C : Type 0} (m : Meaning C) (d p : ℕ) (s : Set C) (old : Bytes) (r :
   shown_page h is =
       is ∙ sym (page_of (get_or s.memory.sizes d 0) (page_now (files_of m s) (fields s.memory) d) (page_long (files_of m s) s.memory d) p h.low h.high)
 
-  from_card : length old ≡ 512 → FromCard m d p s old r s' new → r ≡ Ok tt → new ≡ file_page (files_of m s d) p
-  from_card long f ok = by f.answer f.told f.went f.bytes
+  known : InRange s.memory d p (length old) → d < how_many s.names
+  known h = omega (arith, h.known, s.tied)
+
+  from_card : d < how_many s.names → length old ≡ 512 → FromCard m d p s old r s' new → r ≡ Ok tt → new ≡ file_page (files_of m s d) p
+  from_card there long f ok = by f.answer f.told f.went f.bytes
     where
       by :
           (a : Result (Unit {0}) SetFault) → r ≡ told a → Went m (task (at_reading d) (file_of s d) (read (place p) 512) ∷ []) s.card a s'.card →
@@ -89,6 +94,7 @@ module _ {C : Type 0} (m : Meaning C) (d p : ℕ) (s : Set C) (old : Bytes) (r :
       by (Ok u) t w b =
           b ∙ ap (part_of (m.holds s.card (file_of s d)) (place p)) long
           ∙ read_page (m.holds s.card (file_of s d)) (file_of s d) p (one_worked m s.card s'.card _ w.ended).lawful
+          ∙ ap (λ (b : Bytes). file_page b p) (sym (of_database m s d there))
       by (Err e) t w b = absurd (let z : ◌≡◌ {A = ℕ} 0 1 = cc in omega arith)
 
   pub shown :
@@ -103,4 +109,4 @@ module _ {C : Type 0} (m : Meaning C) (d p : ℕ) (s : Set C) (old : Bytes) (r :
           shown_page (in_range s.memory d p (length old) (later_passed _ _ is)) (h.2 ∙ sym (ap (λ (o : Option Bytes). or_file o (file_page (files_of m s d) p)) in_memory))
       by None is None in_memory h =
           let good = in_range s.memory d p (length old) (later_passed _ _ is) in
-          shown_page good (from_card good.whole h ok ∙ sym (ap (λ (o : Option Bytes). or_file o (file_page (files_of m s d) p)) in_memory))
+          shown_page good (from_card (known good) good.whole h ok ∙ sym (ap (λ (o : Option Bytes). or_file o (file_page (files_of m s d) p)) in_memory))

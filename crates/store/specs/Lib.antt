@@ -1,4 +1,5 @@
 pub mod Modes
+pub mod Between
 pub mod Calls
 pub mod Reads
 pub mod Commits

@@ -6,7 +6,7 @@ use Rattle.refusal.specs.declared.refusals.Refusal.TheVariants.{Cold as cold_set
 use Rattle.store.specs.declared.mode.Mode.{Mode}
 use Rattle.store.specs.declared.mode.Mode.TheVariants.{Cold, Ready, Running}
 use Rattle.store.specs.declared.mode.Call.{Call}
-use Rattle.store.specs.declared.mode.Call.TheVariants.{Begin, Read, Use, End}
+use Rattle.store.specs.declared.mode.Call.TheVariants.{Begin, Read, Use}
 
 abbrev pub is_ready : Mode → Bool
 is_ready Cold = false
@@ -26,15 +26,12 @@ abbrev pub says : Mode → ℕ → Call → Option Refusal
 says Cold begun (Begin nonce) = Some not_running
 says Cold begun Read = Some cold_set
 says Cold begun (Use asked) = Some not_running
-says Cold begun (End asked) = Some not_running
 says Ready begun (Begin nonce) = cond (can_count begun) None (Some not_running)
 says Ready begun Read = None
 says Ready begun (Use asked) = Some not_running
-says Ready begun (End asked) = Some not_running
 says (Running number nonce) begun (Begin other) = Some not_running
 says (Running number nonce) begun Read = None
 says (Running number nonce) begun (Use asked) = cond (is_running number asked) None (Some not_running)
-says (Running number nonce) begun (End asked) = cond (is_running number asked) None (Some not_running)
 
 -- the mode after the call
 abbrev pub next : Mode → ℕ → Call → Mode
@@ -42,11 +39,7 @@ next Cold begun call = Cold
 next Ready begun (Begin nonce) = cond (can_count begun) (Running (begun + 1) nonce) Ready
 next Ready begun Read = Ready
 next Ready begun (Use asked) = Ready
-next Ready begun (End asked) = Ready
-next (Running number nonce) begun (Begin other) = Running number nonce
-next (Running number nonce) begun Read = Running number nonce
-next (Running number nonce) begun (Use asked) = Running number nonce
-next (Running number nonce) begun (End asked) = cond (is_running number asked) Ready (Running number nonce)
+next (Running number nonce) begun call = Running number nonce
 
 -- how many transactions are begun after the call
 abbrev pub counted : Mode → ℕ → Call → ℕ
@@ -54,7 +47,6 @@ counted Cold begun call = begun
 counted Ready begun (Begin nonce) = cond (can_count begun) (begun + 1) begun
 counted Ready begun Read = begun
 counted Ready begun (Use asked) = begun
-counted Ready begun (End asked) = begun
 counted (Running number nonce) begun call = begun
 
 -- the call changes no mode
@@ -62,7 +54,6 @@ abbrev pub OnlyAsks : Call → Type 0
 OnlyAsks (Begin nonce) = ⊥
 OnlyAsks Read = Unit {0}
 OnlyAsks (Use asked) = Unit {0}
-OnlyAsks (End asked) = ⊥
 
 -- the number that a begin gives its token
 abbrev pub given : Mode → ℕ → ℕ

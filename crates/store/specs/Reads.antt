@@ -1,10 +1,10 @@
 -- What a read of a set is answered: a refusal, a changed page from memory, or a page from the card.
-use Rattle.std.specs.Prelude.{◌≡◌, ℕ, ◌-◌, ◌*◌, Bool, cond, ◌&&◌, List, [], ◌∷◌, Some, None, Ok, Err, Option, Result, ◌==◌, nat_le, nat_lt, slice_index}
+use Rattle.std.specs.Prelude.{◌≡◌, ℕ, ◌-◌, ◌*◌, Bool, cond, ◌&&◌, List, [], ◌∷◌, replicate, Some, None, Ok, Err, Option, Result, ◌==◌, nat_le, nat_lt, slice_index}
 use Rattle.card.specs.declared.fault.Cause.{Cause}
 use Rattle.card.specs.declared.fault.Cause.TheVariants.{Power, Device, Absent, Present, Range}
 use Rattle.card.specs.Meaning.{Meaning, Bytes, Name}
 use Rattle.card.specs.Calls.{read, part}
-use Rattle.names.specs.Files.{names_of}
+use Rattle.names.specs.Files.{names_of, how_many}
 use Rattle.names.specs.Names.{named}
 use Rattle.refusal.specs.declared.fault.SetFault.{SetFault}
 use Rattle.refusal.specs.declared.refusals.Refusal.{Refusal}
@@ -71,9 +71,10 @@ module _ {C : Type 0} (m : Meaning C) (d p : ℕ) (s : Set C) (old : Bytes) (r :
   Reads None (Some bytes) = (r ≡ Ok tt) × (s' ≡ s) × (new ≡ bytes)
   Reads None None = FromCard
 
--- what the files of a set's databases hold
+-- what the files of a set's databases hold; past the last of them zeros of the stored size, so that the files of
+-- all numbers can hold what is stored
 abbrev pub files_of : {C : Type 0} → Meaning C → Set C → ℕ → Bytes
-files_of m s d = contents (m.holds s.card (file_of s d))
+files_of m s d = cond (nat_lt d (how_many s.names)) (contents (m.holds s.card (file_of s d))) (replicate (slice_index s.stored.rows d * 512) 0)
 
 -- a read that is answered well shows the page that the transaction holds, over what the files hold
 abbrev pub Shows : {C : Type 0} → Meaning C → ℕ → ℕ → Set C → Result (Unit {0}) Refusal → Bytes → Type 0

@@ -8,7 +8,7 @@ pub enum Mode {
     Running { number: u32, nonce: u32 },
 }
 
-/// What a call asks of the mode: to begin a transaction, to read, to use a transaction, or to end it.
+/// What a call asks of the mode: to begin a transaction, to read, or to use a transaction. Ending one is a use of it.
 // An enum of calls, since the call is matched together with the mode, in place: a rule of the project
 // (docs/SET.md).
 #[derive(Clone, Copy)]
@@ -16,5 +16,4 @@ pub enum Call {
     Begin { nonce: u32 },
     Read,
     Use { number: u32 },
-    End { number: u32 },
 }

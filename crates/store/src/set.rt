@@ -2,6 +2,7 @@
 ghost use Rattle.std.specs.Prelude.{◌≡◌};
 ghost use Rattle.names.specs.Files.{how_many};
 ghost use Rattle.sizes.specs.Fitting.{Fitting};
+ghost use Rattle.store.specs.Between.{Live, Rested};
 
 use crate::mode::Mode;
 use journal::JOURNAL_LIMIT;
@@ -21,7 +22,8 @@ mod savepoint;
 mod write;
 
 /// A set of databases over a card. The sizes that are stored are those that the files have; those of
-/// the memory are those of the running transaction. `begun` counts the transactions.
+/// the memory are those of the running transaction, and the stored ones while none runs. `begun` counts the
+/// transactions: it is the number of the one that runs.
 #[derive(Drop)]
 pub struct Set<C> {
     card: C,
@@ -33,6 +35,8 @@ pub struct Set<C> {
     buffer: [u8; JOURNAL_LIMIT],
     ghost tied: { memory.count ≡ how_many names },
     ghost fitting: { Fitting memory.sizes },
+    ghost live: { Live mode begun },
+    ghost rest: { Rested mode memory stored.rows },
 }
 
 // With a card of no bytes the set takes at most 64 KiB.

@@ -9,7 +9,7 @@ use crate::set::Set;
 use refusal::Refusal;
 
 impl<C> Set<C> {
-    /// Whether a call may go on in this mode. A call that begins or ends a transaction changes the mode.
+    /// Whether a call may go on in this mode. A call that begins a transaction changes the mode.
     pub(crate) fn admit(&mut self, call: Call) -> Result<(), Refusal>
         ensures refusal { refused result ≡ says self.old.mode self.old.begun call }
         ensures mode { self.new.mode ≡ next self.old.mode self.old.begun call }
@@ -27,11 +27,6 @@ impl<C> Set<C> {
             }
             (Mode::Running { number, .. }, Call::Use { number: asked })
                 if asked >= 1 && asked == number => Ok(()),
-            (Mode::Running { number, .. }, Call::End { number: asked })
-                if asked >= 1 && asked == number => {
-                self.mode = Mode::Ready;
-                Ok(())
-            }
             (Mode::Ready | Mode::Running { .. }, Call::Read) => Ok(()),
             (Mode::Cold, Call::Read) => Err(Refusal::Cold),
             (Mode::Cold | Mode::Ready | Mode::Running { .. }, _) => Err(Refusal::Transaction),

@@ -3,7 +3,7 @@ ghost use Rattle.std.specs.Prelude.{◌≡◌};
 ghost use Rattle.store.specs.Calls.{told, ButRun};
 ghost use Rattle.store.specs.Commits.{Commits, Concluded};
 ghost use Rattle.store.specs.Modes.{says};
-ghost use Rattle.store.specs.declared.mode.Call.TheVariants.{End};
+ghost use Rattle.store.specs.declared.mode.Call.TheVariants.{Use};
 
 use crate::mode::{Call, Mode};
 use crate::set::Set;
@@ -41,14 +41,14 @@ impl<C: Card> Set<C> {
     /// number of journals that could not be deleted is told. The token is taken also when the call is
     /// refused. After a fault the set is cold.
     pub fn commit(&mut self, t: Transaction) -> Result<usize, Refusal>
-        ensures { Commits C.Card.meaning self.old result self.new (says self.old.mode self.old.begun (End t.number)) }
+        ensures { Commits C.Card.meaning self.old result self.new (says self.old.mode self.old.begun (Use t.number)) }
     {
         let number = t.end();
-        // The mode gives the nonce here, before `admit` changes it; where none runs it is refused as `admit` would.
+        // The mode gives the nonce; where none runs it is refused as `admit` would.
         let Mode::Running { nonce, .. } = self.mode else {
             return Err(Refusal::Transaction);
         };
-        self.admit(Call::End { number })?;
+        self.admit(Call::Use { number })?;
         let answer = commit(
             &mut self.card,
             &self.names,

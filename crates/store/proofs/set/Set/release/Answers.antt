@@ -1,13 +1,17 @@
-use Rattle.std.proofs.Common.{ap, ◌∙◌}
+use Rattle.std.proofs.Common.{ap}
 use Rattle.pager.specs.Machine.{Machine}
 use Rattle.refusal.specs.Results.{refused}
+use Rattle.store.proofs.Kept.{in_use}
 use Rattle.store.proofs.Bounds.{held_bounded}
 use Rattle.store.proofs.set.Set.release.Goals as goal
 
-pub invariant_of-self : goal.invariant_of-self
-invariant_of-self g c =
+pub invariant_of-self-clause-fitting : goal.invariant_of-self-clause-fitting
+invariant_of-self-clause-fitting g c =
     let at = c.admit.new.self in
-    let bounds =
     held_bounded at.memory c.release.new.self at.fitting (refused c.release.result) c.release.ensures.kept
-    (λ ok files i. ap (λ (x : Machine). x.held.current i) (c.release.ensures.done ok files)) in
-    record { tied = c.release.ensures.count ∙ at.tied; fitting = bounds }
+    (λ ok files i. ap (λ (x : Machine). x.held.current i) (c.release.ensures.done ok files))
+
+pub invariant_of-self-clause-rest : goal.invariant_of-self-clause-rest
+invariant_of-self-clause-rest g c =
+    let a = c.in_ok-admit.ensures in
+    in_use c.args.self.now c.admit.new.self _ c.release.new.self a.refusal (a.asked tt)
