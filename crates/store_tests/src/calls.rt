@@ -1,14 +1,12 @@
 // The calls of a set at their limits.
-use crate::contents::{IMAGE, Page, Version, direct, layer, names};
-use crate::cuts::{Cut, delayed, quiet_calls};
-use card::{CardCall, CardFault, Cause};
-use direct_card::DirectCard;
+use crate::contents::{IMAGE, Page, Version, direct, layer, names, ready};
+use crate::cuts::{Cut, call_after_recovery, delayed};
+use card::{Card, CardCall, CardFault, Cause};
 use halves::Kept;
 use journal::{JournalFault, PAGE};
 use refusal::{Refusal, SetFault};
 use std::process::Abort;
-use std::test::Fail;
-use store::Set;
+use store::{Set, Transaction};
 
 /// What the tests write into a page.
 const SEVENS: [u8; PAGE] = [7; PAGE];
@@ -27,188 +25,256 @@ fn unread(cause: Cause, origin: u8) -> Refusal {
     })
 }
 
-/// A cold set of two databases.
-fn cold<'a>(rt: &impl Abort, image: &'a mut [u8; IMAGE]) -> Set<DirectCard<'a>> {
-    let card = direct(image, 2).expect(rt, "a card with room");
-    Set::new(names(2).expect(rt, "two names"), card)
+/// A call of a set in a transaction: a read or a write goes to a database, by a page and a number of
+/// bytes.
+#[derive(Clone, Copy, Debug)]
+enum Call {
+    Read(usize, u32, usize),
+    Write(usize, u32, usize),
+    Size(usize),
+    Savepoint,
+    Release(usize),
 }
 
-/// A ready set of two databases.
-fn ready<'a>(rt: &impl Abort, image: &'a mut [u8; IMAGE]) -> Set<DirectCard<'a>> {
-    let mut set = cold(rt, image);
-    assert!(rt; set.recover().is_ok());
-    set
+/// A call's answer: a size, a savepoint's number, 7 of a page that shows sevens, and else 0.
+type Answer = Result<usize, Refusal>;
+
+/// A byte more than a page has.
+const LONG: usize = PAGE + 1;
+
+/// Makes a call with a token; what it writes is sevens. A refused read leaves the bytes as they were.
+fn answer_to<C: Card>(rt: &impl Abort, set: &mut Set<C>, t: &Transaction, call: Call) -> Answer {
+    match call {
+        Call::Read(database, page, length) => {
+            let mut bytes = [9u8; LONG];
+            let answer = set.read(database, page, &mut bytes[0..length.min(LONG)]);
+            assert!(rt; answer.is_ok() || bytes == [9; LONG], "{call:?}");
+            answer?;
+            Ok(if bytes[0..PAGE] == SEVENS[..] { 7 } else { 0 })
+        }
+        Call::Write(database, page, length) => {
+            set.write(t, database, page, &SEVENS[0..length.min(PAGE)])?;
+            Ok(0)
+        }
+        // as, since no From takes a u32 to a usize
+        Call::Size(database) => Ok(set.size(database)? as usize),
+        Call::Savepoint => set.savepoint(t),
+        Call::Release(savepoint) => {
+            set.release(t, savepoint)?;
+            Ok(0)
+        }
+    }
 }
+
+/// Makes calls with a token, in turn, and checks their answers.
+fn check_calls<C: Card>(
+    rt: &impl Abort,
+    set: &mut Set<C>,
+    t: &Transaction,
+    calls: &[(Call, Answer)],
+) {
+    for &(call, answer) in calls {
+        assert_eq!(rt; answer_to(rt, set, t, call), answer, "{call:?}");
+    }
+}
+
+/// The calls with a token that is not the running transaction's.
+const VOID: [(Call, Answer); 4] = [
+    (Call::Write(0, 1, PAGE), Err(Refusal::Transaction)),
+    (Call::Savepoint, Err(Refusal::Transaction)),
+    (Call::Release(0), Err(Refusal::Transaction)),
+    (Call::Release(1), Err(Refusal::Transaction)),
+];
+
+/// Reads of a cold set, of a page that there is and of none.
+const COLD: [(Call, Answer); 2] = [
+    (Call::Read(0, 1, PAGE), Err(Refusal::Cold)),
+    (Call::Read(9, 0, 0), Err(Refusal::Cold)),
+];
 
 #[test]
 fn a_cold_set_has_no_transaction(rt: HostRuntime) {
     let mut image = [0u8; IMAGE];
-    let mut set = cold(&rt, &mut image);
-    let mut bytes = [0u8; PAGE];
-    assert_eq!(rt; set.read(0, 1, &mut bytes), Err(Refusal::Cold));
-    assert_eq!(rt; set.read(9, 0, &mut []), Err(Refusal::Cold));
-    let t = set.begin(7);
-    assert_eq!(rt; t.number(), 0);
-    assert_eq!(rt; set.write(&t, 0, 1, &bytes), Err(Refusal::Transaction));
-    assert_eq!(rt; set.savepoint(&t), Err(Refusal::Transaction));
-    assert_eq!(rt; set.release(&t, 1), Err(Refusal::Transaction));
-    assert_eq!(rt; set.commit(t), Err(Refusal::Transaction));
-    let t = set.begin(7);
-    assert_eq!(rt; set.rollback(t), Err(Refusal::Transaction));
-    assert!(rt; !set.is_ready());
+    let card = direct(&rt, &mut image, 2);
+    let mut set = Set::new(names(&rt, 2), card);
+    let first = set.begin(7);
+    check_calls(&rt, &mut set, &first, &COLD);
+    check_calls(&rt, &mut set, &first, &VOID);
+    let told = (first.number(), set.commit(first));
+    let second = set.begin(7);
+    assert_eq!(rt;
+        (told, set.rollback(second), set.is_ready()),
+        (
+            (0, Err(Refusal::Transaction)),
+            Err(Refusal::Transaction),
+            false
+        )
+    );
 }
+
+/// Reads of two databases of two pages each, with the first test that fails.
+const READS: [(Call, Answer); 9] = [
+    (Call::Read(2, 0, 0), Err(Refusal::NoDatabase)),
+    (Call::Read(1, 0, 511), Err(Refusal::BufferLength)),
+    (Call::Read(1, 0, 513), Err(Refusal::BufferLength)),
+    (Call::Read(1, 0, 512), Err(Refusal::Page)),
+    (Call::Read(1, 3, 512), Err(Refusal::Page)),
+    (Call::Read(1, u32::MAX, 512), Err(Refusal::Page)),
+    (Call::Read(1, 2, 512), Ok(0)),
+    (Call::Size(1), Ok(2)),
+    (Call::Size(2), Err(Refusal::NoDatabase)),
+];
 
 #[test]
 fn one_transaction_runs_at_a_time(rt: HostRuntime) {
     let mut image = [0u8; IMAGE];
-    let mut set = ready(&rt, &mut image);
+    let mut set = ready(&rt, direct(&rt, &mut image, 2), 2);
     let first = set.begin(7);
     let void = set.begin(7);
-    assert_eq!(rt; [first.number(), void.number()], [1, 0]);
-    assert_eq!(rt; set.write(&void, 0, 1, &SEVENS), Err(Refusal::Transaction));
-    assert_eq!(rt; set.rollback(void), Err(Refusal::Transaction));
-    assert_eq!(rt; set.write(&first, 0, 1, &SEVENS), Ok(()));
-    assert_eq!(rt; set.commit(first), Ok(0));
-    assert!(rt; set.is_ready());
-}
-
-#[test]
-fn transactions_count_up_from_1(rt: HostRuntime) -> Result<(), Fail> {
-    let mut image = [0u8; IMAGE];
-    let mut set = ready(&rt, &mut image);
-    // a transaction's number is what the call tells
-    for k in 1..6 {
-        let t = set.begin(7);
-        assert_eq!(rt; t.number(), k);
-        assert_eq!(rt; set.rollback(t), Ok(()));
-    }
-    let _ = set.recover()?;
-    let t = set.begin(7);
-    assert_eq!(rt; t.number(), 6);
-    assert_eq!(rt; set.commit(t), Ok(0));
-    Ok(())
+    check_calls(&rt, &mut set, &void, &VOID);
+    let told = (first.number(), void.number(), set.rollback(void));
+    let written = set.write(&first, 0, 1, &SEVENS);
+    assert_eq!(rt;
+        (told, written, set.commit(first), set.is_ready()),
+        ((1, 0, Err(Refusal::Transaction)), Ok(()), Ok(0), true)
+    );
 }
 
 #[test]
 fn a_token_of_an_earlier_transaction_is_stale(rt: HostRuntime) {
     let mut image = [0u8; IMAGE];
-    let mut set = ready(&rt, &mut image);
+    let mut set = ready(&rt, direct(&rt, &mut image, 2), 2);
     let stale = set.begin(7);
     assert!(rt; set.recover().is_ok());
+    // a read asks for no transaction
+    check_calls(&rt, &mut set, &stale, &READS);
     let running = set.begin(7);
-    assert_eq!(rt; [stale.number(), running.number()], [1, 2]);
-    assert_eq!(rt; set.write(&stale, 0, 1, &SEVENS), Err(Refusal::Transaction));
-    assert_eq!(rt; set.savepoint(&stale), Err(Refusal::Transaction));
-    assert_eq!(rt; set.release(&stale, 0), Err(Refusal::Transaction));
-    assert_eq!(rt; set.commit(stale), Err(Refusal::Transaction));
-    assert_eq!(rt; set.rollback(running), Ok(()));
+    check_calls(&rt, &mut set, &stale, &VOID);
+    let numbers = [stale.number(), running.number()];
+    assert_eq!(rt;
+        (numbers, set.commit(stale), set.rollback(running)),
+        ([1, 2], Err(Refusal::Transaction), Ok(()))
+    );
 }
 
 #[test]
-fn reads_are_refused_in_order(rt: HostRuntime) {
+fn transactions_count_up_from_1(rt: HostRuntime) {
     let mut image = [0u8; IMAGE];
-    let mut set = ready(&rt, &mut image);
-    let mut bytes = [9u8; PAGE];
-    assert_eq!(rt; set.read(2, 0, &mut []), Err(Refusal::NoDatabase));
-    assert_eq!(rt; set.read(1, 0, &mut [0; 511]), Err(Refusal::BufferLength));
-    assert_eq!(rt; set.read(1, 0, &mut [0; 513]), Err(Refusal::BufferLength));
-    assert_eq!(rt; set.read(1, 0, &mut bytes), Err(Refusal::Page));
-    assert_eq!(rt; set.read(1, 3, &mut bytes), Err(Refusal::Page));
-    assert_eq!(rt; set.read(1, u32::MAX, &mut bytes), Err(Refusal::Page));
-    assert!(rt; bytes == [9u8; PAGE]);
-    assert_eq!(rt; set.read(1, 2, &mut bytes), Ok(()));
-    assert!(rt; bytes == Page::new(1, 2, Version::Old).bytes());
-    assert_eq!(rt; set.size(1), Ok(2));
-    assert_eq!(rt; set.size(2), Err(Refusal::NoDatabase));
-}
-
-#[test]
-fn writes_are_refused_in_order(rt: HostRuntime) {
-    let mut image = [0u8; IMAGE];
-    let mut set = ready(&rt, &mut image);
+    let mut set = ready(&rt, direct(&rt, &mut image, 2), 2);
+    // a transaction's number is what the call tells
+    for k in 1..6 {
+        let t = set.begin(7);
+        assert_eq!(rt; (t.number(), set.rollback(t)), (k, Ok(())));
+    }
+    assert!(rt; set.recover().is_ok());
     let t = set.begin(7);
-    assert_eq!(rt; set.write(&t, 2, 0, &[]), Err(Refusal::NoDatabase));
-    assert_eq!(rt; set.write(&t, 1, 0, &[7; 511]), Err(Refusal::BufferLength));
-    assert_eq!(rt; set.write(&t, 1, 0, &SEVENS), Err(Refusal::Page));
-    assert_eq!(rt; set.write(&t, 1, 4, &SEVENS), Err(Refusal::Page));
-    assert_eq!(rt; set.write(&t, 1, 3, &SEVENS), Ok(()));
-    assert_eq!(rt; set.size(1), Ok(3));
-    let mut bytes = [0u8; PAGE];
-    assert_eq!(rt; set.read(1, 3, &mut bytes), Ok(()));
-    assert!(rt; bytes == SEVENS);
-    assert_eq!(rt; set.rollback(t), Ok(()));
-    assert_eq!(rt; set.size(1), Ok(2));
-    assert_eq!(rt; set.read(1, 3, &mut bytes), Err(Refusal::Page));
+    assert_eq!(rt; (t.number(), set.commit(t)), (6, Ok(0)));
 }
 
+/// Writes to them, with the first test that fails; the last one makes a database a page longer.
+const WRITES: [(Call, Answer); 7] = [
+    (Call::Write(2, 0, 0), Err(Refusal::NoDatabase)),
+    (Call::Write(1, 0, 511), Err(Refusal::BufferLength)),
+    (Call::Write(1, 0, 512), Err(Refusal::Page)),
+    (Call::Write(1, 4, 512), Err(Refusal::Page)),
+    (Call::Write(1, 3, 512), Ok(0)),
+    (Call::Size(1), Ok(3)),
+    (Call::Read(1, 3, 512), Ok(7)),
+];
+
 #[test]
-fn a_transaction_changes_32_pages(rt: HostRuntime) {
+fn reads_and_writes_are_refused_in_order(rt: HostRuntime) {
     let mut image = [0u8; IMAGE];
-    let mut set = ready(&rt, &mut image);
+    let mut set = ready(&rt, direct(&rt, &mut image, 2), 2);
+    let t = set.begin(7);
+    check_calls(&rt, &mut set, &t, &READS);
+    check_calls(&rt, &mut set, &t, &WRITES);
+    let ended = (set.rollback(t), set.size(1));
+    assert_eq!(rt;
+        (ended, set.read(1, 3, &mut [0; PAGE])),
+        ((Ok(()), Ok(2)), Err(Refusal::Page))
+    );
+    Page::new(1, 2, Version::Old).check(&rt, &mut set);
+}
+
+/// Savepoints that are made and released, one after another.
+const SAVEPOINTS: [(Call, Answer); 15] = [
+    (Call::Release(1), Err(Refusal::NoSavepoint)),
+    (Call::Savepoint, Ok(1)),
+    (Call::Savepoint, Ok(2)),
+    (Call::Savepoint, Ok(3)),
+    (Call::Savepoint, Ok(4)),
+    (Call::Savepoint, Ok(5)),
+    (Call::Savepoint, Ok(6)),
+    (Call::Savepoint, Ok(7)),
+    (Call::Savepoint, Ok(8)),
+    (Call::Savepoint, Err(Refusal::SavepointsFull)),
+    (Call::Release(0), Err(Refusal::NoSavepoint)),
+    (Call::Release(9), Err(Refusal::NoSavepoint)),
+    (Call::Release(3), Ok(0)),
+    (Call::Release(3), Err(Refusal::NoSavepoint)),
+    (Call::Savepoint, Ok(3)),
+];
+
+/// Writes where 31 pages of the other database are changed.
+const LAST_WRITES: [(Call, Answer); 2] = [
+    (Call::Write(1, 1, PAGE), Ok(0)),
+    (Call::Write(1, 2, PAGE), Err(Refusal::ChangedFull)),
+];
+
+#[test]
+fn eight_savepoints_stand_and_a_transaction_changes_32_pages(rt: HostRuntime) {
+    let mut image = [0u8; IMAGE];
+    let mut set = ready(&rt, direct(&rt, &mut image, 2), 2);
+    let t = set.begin(7);
+    check_calls(&rt, &mut set, &t, &SAVEPOINTS);
+    let committed = set.commit(t);
     let t = set.begin(7);
     // a page goes by number in a call
-    for p in 1..32 {
-        assert_eq!(rt; set.write(&t, 0, p, &SEVENS), Ok(()));
+    for page in 1..32 {
+        check_calls(&rt, &mut set, &t, &[(Call::Write(0, page, PAGE), Ok(0))]);
     }
-    assert_eq!(rt; set.write(&t, 1, 1, &SEVENS), Ok(()));
-    assert_eq!(rt; set.write(&t, 1, 2, &SEVENS), Err(Refusal::ChangedFull));
-    assert_eq!(rt; set.write(&t, 0, 31, &[8; PAGE]), Ok(()));
-    assert_eq!(rt; set.rollback(t), Ok(()));
+    check_calls(&rt, &mut set, &t, &LAST_WRITES);
+    let ended = [set.write(&t, 0, 31, &[8; PAGE]), set.rollback(t)];
+    assert_eq!(rt; (committed, ended), (Ok(0), [Ok(()); 2]));
 }
 
 #[test]
-fn eight_savepoints_stand(rt: HostRuntime) {
+fn a_commit_of_nothing_calls_no_card(rt: HostRuntime) {
+    let next = call_after_recovery(&rt, 2);
     let mut image = [0u8; IMAGE];
-    let mut set = ready(&rt, &mut image);
+    let card = layer(&rt, direct(&rt, &mut image, 2), &[next]);
+    let mut set = ready(&rt, card, 2);
     let t = set.begin(7);
-    assert_eq!(rt; set.release(&t, 1), Err(Refusal::NoSavepoint));
-    // a savepoint's number is what the call tells
-    for k in 1..9 {
-        assert_eq!(rt; set.savepoint(&t), Ok(k));
-    }
-    assert_eq!(rt; set.savepoint(&t), Err(Refusal::SavepointsFull));
-    assert_eq!(rt; set.release(&t, 0), Err(Refusal::NoSavepoint));
-    assert_eq!(rt; set.release(&t, 9), Err(Refusal::NoSavepoint));
-    assert_eq!(rt; set.release(&t, 3), Ok(()));
-    assert_eq!(rt; set.release(&t, 3), Err(Refusal::NoSavepoint));
-    assert_eq!(rt; set.savepoint(&t), Ok(3));
-    assert_eq!(rt; set.commit(t), Ok(0));
-}
-
-#[test]
-fn a_commit_of_nothing_calls_no_card(rt: HostRuntime) -> Result<(), Fail> {
-    let next = quiet_calls(2)?.saturating_add(1);
-    let mut image = [0u8; IMAGE];
-    let card = direct(&mut image, 2)?;
-    let mut set = Set::new(names(2)?, layer(&rt, card, &[next]));
-    let _ = set.recover()?;
-    let t = set.begin(7);
-    assert_eq!(rt; set.commit(t), Ok(0));
-    assert!(rt; set.is_ready());
+    let committed = (set.commit(t), set.is_ready());
     let mut bytes = [0u8; PAGE];
-    assert_eq!(rt; set.read(0, 1, &mut bytes), Err(unread(Cause::Device, 4)));
-    assert!(rt; set.is_ready());
-    assert_eq!(rt; set.read(0, 1, &mut bytes), Ok(()));
-    Ok(())
+    let faulty = (set.read(0, 1, &mut bytes), set.is_ready());
+    assert_eq!(rt;
+        (committed, faulty, set.read(0, 1, &mut bytes)),
+        ((Ok(0), true), (Err(unread(Cause::Device, 4)), true), Ok(()))
+    );
 }
 
 #[test]
-fn a_read_without_power_leaves_a_cold_set(rt: HostRuntime) -> Result<(), Fail> {
-    let call = quiet_calls(2)?.saturating_add(1);
+fn a_read_without_power_leaves_a_cold_set(rt: HostRuntime) {
+    let next = call_after_recovery(&rt, 2);
     let mut image = [0u8; 2 * IMAGE];
-    let card = delayed(&mut image, 2, Cut::new(call, Kept::Synced))?;
-    let mut set = Set::new(names(2)?, card);
-    let _ = set.recover()?;
+    let card = delayed(&rt, &mut image, 2, Cut::new(next, Kept::Synced));
+    let mut set = ready(&rt, card, 2);
     let t = set.begin(7);
-    let mut bytes = [0u8; PAGE];
-    assert_eq!(rt; set.write(&t, 0, 3, &SEVENS), Ok(()));
-    assert_eq!(rt; set.read(0, 3, &mut bytes), Ok(()));
-    assert_eq!(rt; set.read(0, 1, &mut bytes), Err(unread(Cause::Power, 3)));
-    assert_eq!(rt; set.read(0, 1, &mut bytes), Err(Refusal::Cold));
-    assert_eq!(rt; set.commit(t), Err(Refusal::Transaction));
-    assert!(rt; bytes == SEVENS);
-    assert_eq!(rt; set.size(0), Ok(2));
-    let _ = set.recover()?;
-    assert_eq!(rt; set.read(0, 1, &mut bytes), Ok(()));
-    Ok(())
+    let calls = [
+        (Call::Write(0, 3, PAGE), Ok(0)),
+        (Call::Read(0, 3, PAGE), Ok(7)),
+        (Call::Read(0, 1, PAGE), Err(unread(Cause::Power, 3))),
+        (Call::Read(0, 1, PAGE), Err(Refusal::Cold)),
+    ];
+    check_calls(&rt, &mut set, &t, &calls);
+    assert_eq!(rt;
+        (set.commit(t), set.size(0)),
+        (Err(Refusal::Transaction), Ok(2))
+    );
+    assert_eq!(rt;
+        (set.recover().is_ok(), set.read(0, 1, &mut [0; PAGE])),
+        (true, Ok(()))
+    );
 }

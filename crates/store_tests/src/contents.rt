@@ -5,7 +5,6 @@ use journal::PAGE;
 use refusal::{Refusal, SetFault};
 use std::array;
 use std::process::Abort;
-use std::test::Fail;
 use store::Set;
 use store::checked_names::{Names, checked};
 use trouble_layer::TroubleLayer;
@@ -70,41 +69,39 @@ impl Page {
             u32::from(self.number),
             &mut bytes,
         );
-        assert_eq!(rt; answer, Ok(()), "{self:?}");
-        assert!(rt; bytes == self.bytes(), "{self:?}");
+        assert_eq!(rt; (answer, bytes == self.bytes()), (Ok(()), true), "{self:?}");
     }
 }
 
 /// The names of the first databases: a, b, c, d.
-pub fn names(count: u8) -> Result<Names, Refusal> {
+pub fn names(rt: &impl Abort, count: u8) -> Names {
     let all: [&[u8]; 4] = [b"a", b"b", b"c", b"d"];
-    checked(&all[0..usize::from(count).min(4)])
-}
-
-/// Makes the file of a database, with its old pages.
-fn make_database<C: Card>(card: &mut C, database: u8) -> Result<(), CardFault> {
-    let name = [b'a'.saturating_add(database)];
-    card.create(&name)?;
-    card.write(&name, 0, &Page::new(database, 1, Version::Old).bytes())?;
-    // as, since no From narrows a number: that a page's length fits is seen
-    card.write(
-        &name,
-        PAGE as u32,
-        &Page::new(database, 2, Version::Old).bytes(),
-    )?;
-    card.sync(&name)
+    checked(&all[0..usize::from(count).min(4)]).expect(rt, "one to four databases")
 }
 
 /// Makes the files of the first databases, with their old pages.
 pub fn make_databases<C: Card>(card: &mut C, count: u8) -> Result<(), CardFault> {
-    (0..count).try_for_each(|database| make_database(card, database))
+    // databases go by number in a call
+    for database in 0..count {
+        let name = [b'a'.saturating_add(database)];
+        card.create(&name)?;
+        card.write(&name, 0, &Page::new(database, 1, Version::Old).bytes())?;
+        // as, since no From narrows a number: that a page's length fits is seen
+        card.write(
+            &name,
+            PAGE as u32,
+            &Page::new(database, 2, Version::Old).bytes(),
+        )?;
+        card.sync(&name)?;
+    }
+    Ok(())
 }
 
 /// A direct card with the files of the first databases.
-pub fn direct(image: &mut [u8; IMAGE], count: u8) -> Result<DirectCard<'_>, CardFault> {
+pub fn direct<'a>(rt: &impl Abort, image: &'a mut [u8; IMAGE], count: u8) -> DirectCard<'a> {
     let mut card = DirectCard::new(image, 3);
-    make_databases(&mut card, count)?;
-    Ok(card)
+    make_databases(&mut card, count).expect(rt, "room for the databases");
+    card
 }
 
 /// A layer over a card that refuses the calls of those numbers, at most eight.
@@ -118,6 +115,13 @@ pub fn layer<'a>(
         Ok(layer) => layer,
         Err(_) => panic!(rt; "over eight numbers"),
     }
+}
+
+/// A set of the first databases over a card, ready.
+pub fn ready<C: Card>(rt: &impl Abort, card: C, count: u8) -> Set<C> {
+    let mut set = Set::new(names(rt, count), card);
+    assert!(rt; set.recover().is_ok());
+    set
 }
 
 /// Commits the transaction that takes each database from its old pages to its new ones.
@@ -135,31 +139,25 @@ pub fn commit_new<C: Card>(set: &mut Set<C>, count: u8) -> Result<usize, Refusal
 
 /// The fault that stopped a commit, none if it came through. No other refusal stops it.
 // By cases: of the refusals one is an answer here, and every other fails the test.
-pub fn stopped_by(answer: Result<usize, Refusal>) -> Result<Option<SetFault>, Fail> {
+pub fn stopped_by(rt: &impl Abort, answer: Result<usize, Refusal>) -> Option<SetFault> {
     match answer {
-        Ok(_) => Ok(None),
-        Err(Refusal::Card(fault)) => Ok(Some(fault)),
-        Err(refusal) => Err(Fail::from(refusal)),
+        Ok(_) => None,
+        Err(Refusal::Card(fault)) => Some(fault),
+        Err(refusal) => panic!(rt; "a commit was refused: {refusal:?}"),
     }
 }
 
-/// Checks that a database has the size and the pages of a version.
-fn check_database<C: Card>(rt: &impl Abort, set: &mut Set<C>, database: u8, version: Version) {
-    assert_eq!(rt;
-        set.size(usize::from(database)),
-        Ok(u32::from(version.size())),
-        "database {database}, to show {version:?}"
-    );
-    // pages go by number in a call
-    for number in 1..=version.size() {
-        Page::new(database, number, version).check(rt, set);
-    }
-}
-
-/// Checks that all databases show one version.
+/// Checks that all databases have the size and the pages of one version.
 pub fn check_all<C: Card>(rt: &impl Abort, set: &mut Set<C>, count: u8, version: Version) {
-    // databases go by number in a call
+    // databases and pages go by number in a call
     for database in 0..count {
-        check_database(rt, set, database, version);
+        assert_eq!(rt;
+            set.size(usize::from(database)),
+            Ok(u32::from(version.size())),
+            "database {database}, to show {version:?}"
+        );
+        for number in 1..=version.size() {
+            Page::new(database, number, version).check(rt, set);
+        }
     }
 }

@@ -1,11 +1,10 @@
 // Two databases with files beside them, and what a recovery makes of that.
 use crate::contents::{IMAGE, Page, Version, check_all, direct, names};
-use card::{Card, CardFault};
+use card::Card;
 use direct_card::DirectCard;
 use recovery::Found;
 use refusal::Refusal;
 use std::process::Abort;
-use std::test::Fail;
 use store::Set;
 
 /// A file beside the databases.
@@ -23,54 +22,47 @@ impl<'a> Beside<'a> {
 }
 
 /// A card with the databases, and the files beside them.
-fn scene<'a>(
-    image: &'a mut [u8; IMAGE],
-    files: &[Beside<'_>],
-) -> Result<DirectCard<'a>, CardFault> {
-    let mut card = direct(image, 2)?;
+fn scene<'a>(rt: &impl Abort, image: &'a mut [u8; IMAGE], files: &[Beside<'_>]) -> DirectCard<'a> {
+    let mut card = direct(rt, image, 2);
     for file in files {
-        card.create(file.name)?;
-        card.write(file.name, 0, file.bytes)?;
-        card.sync(file.name)?;
+        let made = [
+            card.create(file.name),
+            card.write(file.name, 0, file.bytes),
+            card.sync(file.name),
+        ];
+        assert_eq!(rt; made, [Ok(()); 3]);
     }
-    Ok(card)
+    card
 }
 
-/// Recovers a scene in an image, and tells the refusal.
-// An Option, since only the refusal is compared; the Result is the set-up's, which fails the test.
-fn refusal_in(image: &mut [u8; IMAGE], files: &[Beside<'_>]) -> Result<Option<Refusal>, Fail> {
-    let mut set = Set::new(names(2)?, scene(image, files)?);
-    Ok(set.recover().err())
-}
-
-/// Checks that a recovery of the scene is refused so, and changes no byte of the card.
-pub fn check_refused(rt: &impl Abort, files: &[Beside<'_>], refusal: Refusal) -> Result<(), Fail> {
+/// Checks that a recovery of the scene, which a word names, is refused so, and changes no byte of the card.
+pub fn check_refused(rt: &impl Abort, word: &str, files: &[Beside<'_>], refusal: Refusal) {
     let mut before = [0u8; IMAGE];
     let mut after = [0u8; IMAGE];
-    let _ = scene(&mut before, files)?;
-    assert_eq!(rt; refusal_in(&mut after, files)?, Some(refusal));
-    assert!(rt; before == after);
-    Ok(())
+    let _ = scene(rt, &mut before, files);
+    let told = Set::new(names(rt, 2), scene(rt, &mut after, files))
+        .recover()
+        .err();
+    assert_eq!(rt; (told, before == after), (Some(refusal), true), "{word}");
 }
 
-/// Checks that a file is absent.
-pub fn check_absent<C: Card>(rt: &impl Abort, card: &mut C, name: &[u8]) {
-    assert_eq!(rt; card.length(name), Ok(None));
-}
-
-/// Checks what a recovery of the scene finds of b's journal: a hot one has the second page as it is to
-/// be. What it does not write is as it was, and no journal and no super-journal is left.
-pub fn check_found(rt: &impl Abort, files: &[Beside<'_>], found: Found) -> Result<(), Fail> {
+/// Checks what a recovery of the scene, which a word names, finds of b's journal: a hot one has the second
+/// page as it is to be. What it does not write is as it was, and no journal and no super-journal is left.
+pub fn check_found(rt: &impl Abort, word: &str, files: &[Beside<'_>], found: Found) {
     let mut image = [0u8; IMAGE];
-    let mut set = Set::new(names(2)?, scene(&mut image, files)?);
-    let recovery = set.recover()?;
+    let mut set = Set::new(names(rt, 2), scene(rt, &mut image, files));
+    let recovery = set.recover().expect(rt, word);
+    let (told, sizes) = (recovery.found, recovery.sizes);
     assert_eq!(rt;
-        recovery.found,
-        [Found::None, found, Found::None, Found::None]
+        (told, sizes, set.size(1)),
+        (
+            [Found::None, found, Found::None, Found::None],
+            [2, 2, 1, 1],
+            Ok(2)
+        ),
+        "{word}"
     );
-    assert_eq!(rt; recovery.sizes, [2, 2, 1, 1]);
     check_all(rt, &mut set, 1, Version::Old);
-    assert_eq!(rt; set.size(1), Ok(2));
     Page::new(1, 1, Version::Old).check(rt, &mut set);
     let second = match found {
         Found::Hot { .. } => Version::New,
@@ -78,9 +70,10 @@ pub fn check_found(rt: &impl Abort, files: &[Beside<'_>], found: Found) -> Resul
     };
     Page::new(1, 2, second).check(rt, &mut set);
     let mut card = set.into_card();
-    let gone: [&[u8]; 3] = [b"a-journal", b"b-journal", b"a-mj"];
-    for name in gone {
-        check_absent(rt, &mut card, name);
-    }
-    Ok(())
+    let gone = [
+        card.length(b"a-journal"),
+        card.length(b"b-journal"),
+        card.length(b"a-mj"),
+    ];
+    assert_eq!(rt; gone, [Ok(None); 3], "{word}");
 }
