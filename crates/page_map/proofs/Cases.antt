@@ -1,5 +1,5 @@
 -- The small map of pages is as the examples say.
-use Rattle.std.proofs.Common.{◌≡◌, ℕ, suc, ◌+◌, ◌<◌, ◌≤◌, Bool, true, false, cond, ◌||◌, eqb, ◌⊎◌, List, [], ◌∷◌, length, ⊎_elim, refl, sym, ap, ◌∙◌, inl, inr, arith}
+use Rattle.std.proofs.Common.{◌≡◌, ℕ, ◌<◌, ◌≤◌, Bool, false, cond, ◌||◌, eqb, ◌⊎◌, List, [], ◌∷◌, length, ⊎_elim, refl, sym, ap, ◌∙◌, inl, inr, arith}
 use Rattle.std.proofs.lemmas.Bool.{cases_lt, ne_eqb, or_from, agree_below_at, cond-true, cond-false, cases_eq, eq-eqb}
 use Rattle.page_map.specs.Sets.{counted, without, NextAbove, NoneAbove}
 use Rattle.page_map.specs.Words.{bit, digit, pages_of}
