@@ -36,8 +36,19 @@ enum Call {
     Release(usize),
 }
 
-/// A call's answer: a size, a savepoint's number, 7 of a page that shows sevens, and else 0.
-type Answer = Result<usize, Refusal>;
+/// What a good call tells.
+#[derive(Clone, Copy, PartialEq, Eq, Debug)]
+enum Told {
+    /// Nothing more.
+    Done,
+    /// A size, or a savepoint's number.
+    Number(usize),
+    /// Whether the page shows sevens.
+    Sevens(bool),
+}
+
+/// A call's answer.
+type Answer = Result<Told, Refusal>;
 
 /// A byte more than a page has.
 const LONG: usize = PAGE + 1;
@@ -50,18 +61,18 @@ fn answer_to<C: Card>(rt: &impl Abort, set: &mut Set<C>, t: &Transaction, call: 
             let answer = set.read(database, page, &mut bytes[0..length.min(LONG)]);
             assert!(rt; answer.is_ok() || bytes == [9; LONG], "{call:?}");
             answer?;
-            Ok(if bytes[0..PAGE] == SEVENS[..] { 7 } else { 0 })
+            Ok(Told::Sevens(bytes[0..PAGE] == SEVENS[..]))
         }
         Call::Write(database, page, length) => {
             set.write(t, database, page, &SEVENS[0..length.min(PAGE)])?;
-            Ok(0)
+            Ok(Told::Done)
         }
         // as, since no From takes a u32 to a usize
-        Call::Size(database) => Ok(set.size(database)? as usize),
-        Call::Savepoint => set.savepoint(t),
+        Call::Size(database) => Ok(Told::Number(set.size(database)? as usize)),
+        Call::Savepoint => Ok(Told::Number(set.savepoint(t)?)),
         Call::Release(savepoint) => {
             set.release(t, savepoint)?;
-            Ok(0)
+            Ok(Told::Done)
         }
     }
 }
@@ -120,8 +131,8 @@ const READS: [(Call, Answer); 9] = [
     (Call::Read(1, 0, 512), Err(Refusal::Page)),
     (Call::Read(1, 3, 512), Err(Refusal::Page)),
     (Call::Read(1, u32::MAX, 512), Err(Refusal::Page)),
-    (Call::Read(1, 2, 512), Ok(0)),
-    (Call::Size(1), Ok(2)),
+    (Call::Read(1, 2, 512), Ok(Told::Sevens(false))),
+    (Call::Size(1), Ok(Told::Number(2))),
     (Call::Size(2), Err(Refusal::NoDatabase)),
 ];
 
@@ -177,9 +188,9 @@ const WRITES: [(Call, Answer); 7] = [
     (Call::Write(1, 0, 511), Err(Refusal::BufferLength)),
     (Call::Write(1, 0, 512), Err(Refusal::Page)),
     (Call::Write(1, 4, 512), Err(Refusal::Page)),
-    (Call::Write(1, 3, 512), Ok(0)),
-    (Call::Size(1), Ok(3)),
-    (Call::Read(1, 3, 512), Ok(7)),
+    (Call::Write(1, 3, 512), Ok(Told::Done)),
+    (Call::Size(1), Ok(Told::Number(3))),
+    (Call::Read(1, 3, 512), Ok(Told::Sevens(true))),
 ];
 
 #[test]
@@ -200,25 +211,25 @@ fn reads_and_writes_are_refused_in_order(rt: HostRuntime) {
 /// Savepoints that are made and released, one after another.
 const SAVEPOINTS: [(Call, Answer); 15] = [
     (Call::Release(1), Err(Refusal::NoSavepoint)),
-    (Call::Savepoint, Ok(1)),
-    (Call::Savepoint, Ok(2)),
-    (Call::Savepoint, Ok(3)),
-    (Call::Savepoint, Ok(4)),
-    (Call::Savepoint, Ok(5)),
-    (Call::Savepoint, Ok(6)),
-    (Call::Savepoint, Ok(7)),
-    (Call::Savepoint, Ok(8)),
+    (Call::Savepoint, Ok(Told::Number(1))),
+    (Call::Savepoint, Ok(Told::Number(2))),
+    (Call::Savepoint, Ok(Told::Number(3))),
+    (Call::Savepoint, Ok(Told::Number(4))),
+    (Call::Savepoint, Ok(Told::Number(5))),
+    (Call::Savepoint, Ok(Told::Number(6))),
+    (Call::Savepoint, Ok(Told::Number(7))),
+    (Call::Savepoint, Ok(Told::Number(8))),
     (Call::Savepoint, Err(Refusal::SavepointsFull)),
     (Call::Release(0), Err(Refusal::NoSavepoint)),
     (Call::Release(9), Err(Refusal::NoSavepoint)),
-    (Call::Release(3), Ok(0)),
+    (Call::Release(3), Ok(Told::Done)),
     (Call::Release(3), Err(Refusal::NoSavepoint)),
-    (Call::Savepoint, Ok(3)),
+    (Call::Savepoint, Ok(Told::Number(3))),
 ];
 
 /// Writes where 31 pages of the other database are changed.
 const LAST_WRITES: [(Call, Answer); 2] = [
-    (Call::Write(1, 1, PAGE), Ok(0)),
+    (Call::Write(1, 1, PAGE), Ok(Told::Done)),
     (Call::Write(1, 2, PAGE), Err(Refusal::ChangedFull)),
 ];
 
@@ -232,7 +243,12 @@ fn eight_savepoints_stand_and_a_transaction_changes_32_pages(rt: HostRuntime) {
     let t = set.begin(7);
     // a page goes by number in a call
     for page in 1..32 {
-        check_calls(&rt, &mut set, &t, &[(Call::Write(0, page, PAGE), Ok(0))]);
+        check_calls(
+            &rt,
+            &mut set,
+            &t,
+            &[(Call::Write(0, page, PAGE), Ok(Told::Done))],
+        );
     }
     check_calls(&rt, &mut set, &t, &LAST_WRITES);
     let ended = [set.write(&t, 0, 31, &[8; PAGE]), set.rollback(t)];
@@ -263,8 +279,8 @@ fn a_read_without_power_leaves_a_cold_set(rt: HostRuntime) {
     let mut set = ready(&rt, card, 2);
     let t = set.begin(7);
     let calls = [
-        (Call::Write(0, 3, PAGE), Ok(0)),
-        (Call::Read(0, 3, PAGE), Ok(7)),
+        (Call::Write(0, 3, PAGE), Ok(Told::Done)),
+        (Call::Read(0, 3, PAGE), Ok(Told::Sevens(true))),
         (Call::Read(0, 1, PAGE), Err(unread(Cause::Power, 3))),
         (Call::Read(0, 1, PAGE), Err(Refusal::Cold)),
     ];

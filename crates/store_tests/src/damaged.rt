@@ -1,10 +1,14 @@
 // Journals of every kind beside the databases: damaged, spent and hot.
-use crate::contents::{Page, Version};
+use crate::contents::{Page, Version, make_databases, names};
 use crate::scenes::{Beside, check_found, check_refused};
+use card::Card;
+use direct_card::DirectCard;
+use journal::{JOURNAL_LIMIT, MAGIC};
 use journal_writer::{put_count, put_header, put_name, put_record};
 use recovery::Found;
 use refusal::Refusal;
 use std::process::Abort;
+use store::Set;
 
 /// A header and two records.
 pub const PLAIN: usize = 1552;
@@ -82,6 +86,49 @@ fn each_damaged_journal_is_told(rt: HostRuntime) {
             *byte ^= bits;
         }
         check_damaged(&rt, word, &bytes[0..length.min(LINKED)], record);
+    }
+}
+
+/// What follows a name of 33 bytes, each an a: its length, its sum, the magic.
+const NAMED: [u8; 16] = [
+    0, 0, 0, 33, 0, 0, 0x0c, 0x81, 0xd9, 0xd5, 0x05, 0xf9, 0x20, 0xa1, 0x63, 0xd7,
+];
+
+// No writer makes these, so they are made byte by byte.
+#[test]
+fn a_size_and_a_name_one_past_their_limits_are_damage(rt: HostRuntime) {
+    let sound = journal(&rt, b"a-mj");
+    let mut large = sound;
+    large[18..20].copy_from_slice(&[0x10, 0x01]);
+    check_damaged(&rt, "a size of 4,097", &large[0..PLAIN], 0);
+    let mut long = [b'a'; PLAIN + 53];
+    long[0..PLAIN + 4].copy_from_slice(&sound[0..PLAIN + 4]);
+    long[PLAIN + 37..].copy_from_slice(&NAMED);
+    check_damaged(&rt, "a name of 33 bytes", &long, 0);
+}
+
+/// 16 slots, each with room for a file longer than any journal.
+const LARGE: usize = 16 * 20_000;
+
+#[test]
+fn a_file_longer_than_any_journal_goes_by_its_header(rt: HostRuntime) {
+    let sound = journal(&rt, b"a-mj");
+    for (magic, refusal) in [
+        (MAGIC, Some(Refusal::Damaged { file: 5, record: 0 })),
+        ([0; 8], None),
+    ] {
+        let mut image = [0u8; LARGE];
+        let mut card = DirectCard::new(&mut image, 3);
+        let databases = make_databases(&mut card, 2);
+        let made = [
+            databases,
+            card.create(b"b-journal"),
+            card.write(b"b-journal", 0, &sound[0..PLAIN]),
+            card.write(b"b-journal", 0, &magic),
+            card.set_length(b"b-journal", JOURNAL_LIMIT as u32 + 1),
+        ];
+        let told = Set::new(names(&rt, 2), card).recover().err();
+        assert_eq!(rt; (made, told), ([Ok(()); 5], refusal), "{magic:?}");
     }
 }
 

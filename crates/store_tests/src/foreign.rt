@@ -9,12 +9,14 @@ use store::Set;
 use super_journal::put_names;
 
 /// Super-journals that have not the form of a list.
-const SHAPELESS: [(&str, &[u8]); 5] = [
+const SHAPELESS: [(&str, &[u8]); 7] = [
     ("no bytes", b""),
     ("an empty name", b"\0"),
     ("no end", b"b-journal"),
     ("a second end", b"b-journal\0\0"),
     ("five names", b"a\0b\0c\0d\0e\0"),
+    ("a name of 33 bytes", b"aaaaaaaaaaaaaaaaaaaaaaaaaaaaaaaaa\0"),
+    ("more bytes than four names have", &[b'a'; 200]),
 ];
 
 #[test]
