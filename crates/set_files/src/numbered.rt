@@ -1,4 +1,5 @@
 // Calls of the card on the files of a set, by their numbers: 0 to 3 a database, 4 to 7 its journal, 8 the super-journal.
+// One goes by a name, which another file gives and which may be any file's; it too is told by a number, 9 for another's.
 // The card and the names go side by side here and above: in one struct, lent as a whole, each function would
 // also have to promise that the names stay as they are. A file goes by its number, as `names` looks it up
 // and as a fault tells it; step and file apart, since a `Site` would be taken apart again for the name.
@@ -29,8 +30,8 @@ pub fn length_of<C: Card>(
     Site::new(step, file).length(card, names.file(file).bytes())
 }
 
-/// How many bytes the file of a name has, or none if it is absent. It is told as the file of the set that
-/// has the name, or as another.
+/// How many bytes the file of a name has, or none if it is absent. The look is told as the file of the set
+/// that has the name, or as another's.
 pub fn length_named<C: Card>(
     card: &mut C,
     names: &Names,

@@ -19,4 +19,6 @@ mod numbers;
 #[cfg(test)]
 mod scenes;
 #[cfg(test)]
+mod told;
+#[cfg(test)]
 mod trials;

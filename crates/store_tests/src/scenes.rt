@@ -23,7 +23,7 @@ impl<'a> Beside<'a> {
 }
 
 /// A card with the databases, and the files beside them.
-fn scene<'a>(
+pub fn scene<'a>(
     image: &'a mut [u8; IMAGE],
     files: &[Beside<'_>],
 ) -> Result<DirectCard<'a>, CardFault> {

@@ -1,13 +1,13 @@
-use Rattle.std.proofs.Common.{◌≡◌, ℕ, ◌<◌, List, Ok, length, refl, ◌∙◌, subst, arith}
-use Rattle.steps.specs.Tasks.{Task, Went, acts}
+use Rattle.std.proofs.Common.{◌≡◌, ℕ, ◌<◌, Ok, length, refl, ◌∙◌, subst, arith}
+use Rattle.steps.specs.Tasks.{Went, acts}
 use Rattle.steps.proofs.Held.{looked_files}
 use Rattle.names.specs.Files.{how_many, file_of}
 use Rattle.set_files.specs.Files.{Holds}
-use Rattle.set_files.specs.Looked.{dropped, never, never₂}
+use Rattle.set_files.specs.Looked.{never, never₂}
 use Rattle.set_files.proofs.Looks.{passed_up, told_up}
 use Rattle.settling.specs.Settled.{up_to}
 use Rattle.settling.proofs.UpTo.{up_none, up_more}
-use Rattle.recovery.specs.Measured.{HasPages, Unsized, length_tasks, measure_tasks}
+use Rattle.recovery.specs.Measured.{HasPages, Unsized, length_tasks}
 use Rattle.recovery.proofs.InPages.{measured_more, all_measured, unsized_at}
 use Rattle.recovery.proofs.Measuring.{measure_stopped}
 use Rattle.recovery.proofs.lengths.measure.Goals as goal
@@ -34,8 +34,8 @@ loop-d-preserved g c =
     let old = c.loop-d.invariant in
     let went = c.in_ok-size.ensures.went in
     let lt : c.loop-d.d < length c.loop-d.kept = omega arith in (
-      up_more m (length_tasks file) c.loop-d.d _ _ _ _ old.0 went,
-      looked_files m (acts (length_tasks file c.loop-d.d)) _ _ (tt, tt) went.ended ∙ old.1,
+      up_more m (length_tasks file) c.loop-d.d c.args.card.now c.loop-d.card c.measure_one.new.card (Ok tt) old.0 went,
+      looked_files m (acts (length_tasks file c.loop-d.d)) c.loop-d.card c.measure_one.new.card (tt, tt) went.ended ∙ old.1,
       measured_more (m.holds c.args.card.now) file c.loop-d.d c.loop-d.kept c.in_ok-size.field-0 lt old.2 (subst (λ (h : Holds). HasPages (h (file c.loop-d.d)) c.in_ok-size.field-0) old.1 c.in_ok-size.ensures.told),
     )
 
