@@ -1,9 +1,9 @@
 -- The names of files, by their numbers.
-use Rattle.std.proofs.Common.{◌≡◌, ℕ, ◌+◌, ◌-◌, ◌<◌, ◌≤◌, Bool, true, false, cond, ◌&&◌, ◌||◌, eqb, ltb, leb, ◌⊎◌, List, [], ◌++◌, length, sym, refl, ap, ◌∙◌, ap₂, inl, inr, ⊎_elim, arith, length-append}
+use Rattle.std.proofs.Common.{◌≡◌, ℕ, ◌+◌, ◌-◌, ◌<◌, ◌≤◌, Bool, true, false, cond, ◌&&◌, ◌||◌, eqb, ltb, leb, ◌⊎◌, List, [], ◌++◌, length, Option, Some, None, MatchOption, sym, refl, ap, ◌∙◌, ap₂, inl, inr, ⊎_elim, arith, length-append}
 use mathlib.Core.Logic.{∥∥₁_elim}
 use Rattle.std.proofs.lemmas.Bool.{cases_lt, le-leb, lt-ltb, le-ltb, ltb-true, leb-true, eqb-true, or_cases, and_parts, cond-true, cond-false}
 use Rattle.names.specs.declared.names.Names.{Names}
-use Rattle.names.specs.Files.{names_of, how_many, file_of}
+use Rattle.names.specs.Files.{names_of, how_many, file_of, FileNamed, NoFileNamed}
 use Rattle.names.specs.Names.{Bytes, is_file, file_name, listed, named, journal_ending, super_ending, Apart}
 
 -- a file of a list of n databases is one of them, a journal of one of them, or the super-journal
@@ -84,3 +84,15 @@ files_apart s j k ij ik ne e = ∥∥₁_elim s.apart (λ x y. elim x [ ]) (λ a
     by : Apart (names_of s) → (j < k) ⊎ (k ≤ j) → ⊥
     by a (inl lt) = a j k (ij, ik, lt, same)
     by a (inr ge) = a k j (ik, ij, omega (arith, ne), sym same)
+
+-- the file of this number is there, and has the name
+abbrev pub Has : List Bytes → Bytes → ℕ → Type 0
+Has names w k = (is_file (length names) k ≡ true) × (file_name (listed names) k ≡ w)
+
+-- what a search of the numbers for a name told
+pub found_named :
+    (s : Names) (w : Bytes) (o : Option ℕ) →
+    MatchOption o ((k : ℕ) → 0 ≤ k → k < 9 → Has (names_of s) w k → ⊥) (λ i. (0 ≤ i) × (i < 9) × Has (names_of s) w i × ((k : ℕ) → 0 ≤ k → k < i → Has (names_of s) w k → ⊥)) →
+    MatchOption o (NoFileNamed (file_of s) (how_many s) w) (FileNamed (file_of s) (how_many s) w)
+found_named s w None h = λ k is e. h k (omega arith) (file_last (how_many s) k s.list.few is) (is, sym (named_file (names_of s) k is) ∙ e)
+found_named s w (Some k) h = (h.2.0, named_file (names_of s) k h.2.0 ∙ h.2.1)

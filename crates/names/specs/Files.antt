@@ -1,8 +1,8 @@
 -- What a checked list of names tells.
-use Rattle.std.specs.Prelude.{ℕ, ◌+◌, List, length}
+use Rattle.std.specs.Prelude.{◌≡◌, ℕ, ◌+◌, true, List, length, ◌≢◌}
 use Rattle.names.specs.declared.names.NameList.{NameList}
 use Rattle.names.specs.declared.names.Names.{Names}
-use Rattle.names.specs.Names.{Bytes, held, named}
+use Rattle.names.specs.Names.{Bytes, held, named, is_file}
 
 -- the names of a list in fixed memory
 abbrev pub names_in : NameList → List Bytes
@@ -27,3 +27,11 @@ journal_file s d = file_of s (4 + d)
 -- the name of the super-journal
 abbrev pub super_file : Names → Bytes
 super_file s = file_of s 8
+
+-- with n databases there is a file of the number k, and it has the name w
+abbrev pub FileNamed : (ℕ → Bytes) → ℕ → Bytes → ℕ → Type 0
+FileNamed file n w k = (is_file n k ≡ true) × (file k ≡ w)
+
+-- no file has the name w
+abbrev pub NoFileNamed : (ℕ → Bytes) → ℕ → Bytes → Type 0
+NoFileNamed file n w = (k : ℕ) → is_file n k ≡ true → file k ≢ w

@@ -8,6 +8,9 @@ use page_map::DATABASES;
 /// The number of the super-journal among the files.
 pub const SUPER_JOURNAL: usize = 2 * DATABASES;
 
+/// The files of four databases: the databases, their journals, the super-journal.
+pub(crate) const FILES: usize = SUPER_JOURNAL + 1;
+
 /// The number of a database's journal among the files. For the crates of this repository: it wants a
 /// database below four.
 pub fn journal_of(database: usize) -> usize

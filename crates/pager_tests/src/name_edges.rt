@@ -28,3 +28,22 @@ fn each_list_is_checked_or_refused_as_the_table_says(rt: HostRuntime) {
         assert_eq!(rt; checked(list).err(), refusal, "{list:?}");
     }
 }
+
+#[test]
+fn each_file_of_a_list_is_found_by_its_name(rt: HostRuntime) {
+    let names = checked(&[b"a", b"b"]).expect(&rt, "two names");
+    let numbers: [(&[u8], Option<usize>); 9] = [
+        (b"a", Some(0)),
+        (b"b", Some(1)),
+        (b"a-journal", Some(4)),
+        (b"b-journal", Some(5)),
+        (b"a-mj", Some(8)),
+        (b"b-mj", None),
+        (b"c", None),
+        (b"c-journal", None),
+        (b"", None),
+    ];
+    for (name, number) in numbers {
+        assert_eq!(rt; names.number_of(name), number, "{name:?}");
+    }
+}

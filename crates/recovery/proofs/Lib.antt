@@ -1,2 +1,3 @@
 mod InPages
+mod Measuring
 mod Parts

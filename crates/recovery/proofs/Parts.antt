@@ -14,7 +14,7 @@ use Rattle.recovery.specs.Recovered.{Finished, Settled, Recovered}
 
 module _ {C : Type 0} (m : Meaning C) (file : ℕ → Name) (n : ℕ) where
   pub surveyed :
-      (c start then c' : C) (found : List Found) (r : Result Recovery Refusal) → Switched m c start → Looked m R1 file start (Ok tt) then → Finds (m.holds start) file n (Ok found) →
+      (c start then c' : C) (found : List Found) (r : Result Recovery Refusal) → Switched m c start → Looked m R1 file n start (Ok tt) then → Finds (m.holds start) file n (Ok found) →
       Settled m file n then found r c' → Recovered m file n c r c'
   surveyed c start then c' found r switched looked finds after =
       record { start = start; then = then; found = Ok found; switched = switched; looked = looked; finds = finds; after = after }

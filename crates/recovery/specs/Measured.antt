@@ -1,9 +1,14 @@
 -- The lengths of the databases.
-use Rattle.std.specs.Prelude.{◌≡◌, ℕ, ◌*◌, ◌<◌, ◌≤◌, List, length, Some, Option, Result, slice_index}
+use Rattle.std.specs.Prelude.{◌≡◌, ℕ, ◌+◌, ◌*◌, ◌<◌, ◌≤◌, List, [], ◌∷◌, length, Some, Ok, Err, Option, Result, slice_index}
 use Rattle.card.specs.Meaning.{Bytes, Name}
+use Rattle.card.specs.Calls.{length_of}
+use Rattle.refusal.specs.declared.step.Step.TheVariants.{R4}
 use Rattle.refusal.specs.declared.refusals.Refusal.{Refusal}
+use Rattle.refusal.specs.declared.refusals.Refusal.TheVariants.{Database}
+use Rattle.steps.specs.Tasks.{Task, task, at}
 use Rattle.set_files.specs.Files.{Holds}
 use Rattle.set_files.specs.Looked.{Told, never, never₂}
+use Rattle.settling.specs.Settled.{up_to}
 
 -- so many whole pages, from 1 to 4,096
 pub record Pages (bytes p : ℕ) : Type 0 where
@@ -31,3 +36,17 @@ pub record Unsized (files : Holds) (file : ℕ → Name) (n d : ℕ) : Type 0 wh
 
 abbrev pub Measured : Holds → (ℕ → Name) → ℕ → Result (List ℕ) Refusal → Type 0
 Measured files file n r = Told r (Sizes files file n) never₂ never (Unsized files file n)
+
+-- the length of the database d is asked for
+abbrev pub length_tasks : (ℕ → Name) → ℕ → List Task
+length_tasks file d = task (at R4 d) (file d) length_of ∷ []
+
+-- so many databases are asked: all, or those up to the first without a length
+abbrev pub asked : ℕ → Result (List ℕ) Refusal → ℕ
+asked n (Ok sizes) = n
+asked n (Err (Database d)) = d + 1
+asked n (Err _) = n
+
+-- the lengths of the databases, in order
+abbrev pub measure_tasks : (ℕ → Name) → ℕ → Result (List ℕ) Refusal → List Task
+measure_tasks file n r = up_to (length_tasks file) (asked n r)

@@ -2,7 +2,7 @@
 -- settled; and if the card refused nothing, the databases are measured. The answer tells how that ended.
 use Rattle.std.specs.Prelude.{◌≡◌, ℕ, List, Ok, Err, Result}
 use Rattle.card.specs.Meaning.{Meaning, Name, Switched}
-use Rattle.refusal.specs.declared.step.Step.TheVariants.{R1, R4}
+use Rattle.refusal.specs.declared.step.Step.TheVariants.{R1}
 use Rattle.refusal.specs.declared.fault.SetFault.{SetFault}
 use Rattle.refusal.specs.declared.refusals.Refusal.{Refusal}
 use Rattle.refusal.specs.declared.refusals.Refusal.TheVariants.{Card}
@@ -11,7 +11,7 @@ use Rattle.survey.specs.declared.report.Found.{Found}
 use Rattle.recovery.specs.declared.report.Recovery.{Recovery}
 use Rattle.survey.specs.Finds.{Finds}
 use Rattle.set_files.specs.Looked.{Looked, dropped}
-use Rattle.recovery.specs.Measured.{Measured}
+use Rattle.recovery.specs.Measured.{Measured, measure_tasks}
 use Rattle.survey.specs.Seen.{Seen, AllSeen}
 use Rattle.settling.specs.Settled.{settle_tasks}
 
@@ -21,10 +21,10 @@ report found (Ok sizes) = Ok (record { found = found; sizes = sizes })
 report found (Err e) = Err e
 
 module _ {C : Type 0} (m : Meaning C) (file : ℕ → Name) (n : ℕ) where
-  -- the lengths are looked at last
+  -- the lengths are asked for last
   pub record Finished (c : C) (found : List Found) (r : Result Recovery Refusal) (c' : C) : Type 0 where
     pub sizes : Result (List ℕ) Refusal
-    pub looked : Looked m R4 file c (dropped sizes) c'
+    pub went : Went m (measure_tasks file n sizes) c (dropped sizes) c'
     pub measured : Measured (m.holds c) file n sizes
     pub answer : r ≡ report found sizes
 
@@ -48,6 +48,6 @@ module _ {C : Type 0} (m : Meaning C) (file : ℕ → Name) (n : ℕ) where
     pub then : C
     pub found : Result (List Found) Refusal
     pub switched : Switched m c start
-    pub looked : Looked m R1 file start (dropped found) then
+    pub looked : Looked m R1 file n start (dropped found) then
     pub finds : Finds (m.holds start) file n found
     pub after : AfterSurvey then found r c'

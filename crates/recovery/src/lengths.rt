@@ -1,9 +1,9 @@
 // The lengths of the databases.
-ghost use Rattle.std.specs.Prelude.{◌≡◌, ℕ, Some, None, MatchOption};
-ghost use Rattle.refusal.specs.declared.step.Step.TheVariants.{R4};
+ghost use Rattle.std.specs.Prelude.{◌≡◌, ℕ, MatchOption};
+ghost use Rattle.steps.specs.Tasks.{Went};
 ghost use Rattle.names.specs.Files.{how_many, file_of};
-ghost use Rattle.set_files.specs.Looked.{OnlyLooked, Told, never, never₂};
-ghost use Rattle.recovery.specs.Measured.{Pages, HasPages, NoPages, Measured};
+ghost use Rattle.set_files.specs.Looked.{Told, dropped, never, never₂};
+ghost use Rattle.recovery.specs.Measured.{Pages, HasPages, NoPages, Measured, length_tasks, measure_tasks};
 
 use card::Card;
 use journal::PAGE;
@@ -23,7 +23,7 @@ fn pages_of(bytes: u32) -> Option<u32>
 
 /// How many pages a database has.
 fn measure_one<C: Card>(card: &mut C, names: &Names, d: usize) -> Result<u32, Refusal>
-    ensures looked { OnlyLooked C.Card.meaning R4 names.now card.old result card.new }
+    ensures went { Went C.Card.meaning (length_tasks (file_of names.now) d) card.old (dropped result) card.new }
     ensures told { Told result (HasPages (C.Card.meaning.holds card.old (file_of names.now d))) never₂ never (λ i. (i ≡ d) × NoPages (C.Card.meaning.holds card.old (file_of names.now d))) }
 {
     let length = length_of(card, names, Step::R4, d)?;
@@ -33,7 +33,7 @@ fn measure_one<C: Card>(card: &mut C, names: &Names, d: usize) -> Result<u32, Re
 /// How many pages each database has; 1 for one that the set has not.
 // No Option in the array: the memory and the stored sizes take four numbers within their limits.
 pub(crate) fn measure<C: Card>(card: &mut C, names: &Names) -> Result<[u32; DATABASES], Refusal>
-    ensures looked { OnlyLooked C.Card.meaning R4 names.now card.old result card.new }
+    ensures went { Went C.Card.meaning (measure_tasks (file_of names.now) (how_many names.now) result) card.old (dropped result) card.new }
     ensures told { Measured (C.Card.meaning.holds card.old) (file_of names.now) (how_many names.now) result }
 {
     let mut sizes = [1u32; DATABASES];

@@ -1,5 +1,5 @@
 -- Looks one after the other, and what they leave.
-use Rattle.std.proofs.Common.{◌≡◌, ℕ, ◌⊎◌, List, [], ◌∷◌, ◌++◌, length, Some, None, Ok, Err, Option, Result, sym, refl, ap, ◌∙◌, subst, inl, inr, arith}
+use Rattle.std.proofs.Common.{◌≡◌, ℕ, ◌+◌, ◌<◌, true, List, [], ◌∷◌, ◌++◌, length, Some, None, Ok, Err, Option, Result, sym, refl, ap, ◌∙◌, subst, inl, arith}
 use Rattle.std.specs.List.{AllByRecursion}
 use Rattle.std.specs.Option.{ok_or}
 use Rattle.std.specs.Result.{IsErrAnd}
@@ -16,26 +16,28 @@ use Rattle.steps.specs.declared.site.Site.{Site}
 use Rattle.steps.specs.Tasks.{Task, task, tasks, acts, Looks, Went, at}
 use Rattle.steps.proofs.Went.{went_then, went_end}
 use Rattle.steps.proofs.Held.{looked_files, all_append}
-use Rattle.set_files.specs.Looked.{Looking, Looked, ended, dropped, stop_of, Told, Says}
+use Rattle.names.specs.Names.{is_file}
+use Rattle.names.proofs.Files.{database_is_file, journal_is_file, super_is_file}
+use Rattle.set_files.specs.Looked.{FileTold, Looking, Looked, ended, dropped, stop_of, Told, Says}
 
-module _ {C : Type 0} (m : Meaning C) (step : Step) (file : ℕ → Name) where
-  pub looked_end : (c : C) → Looked m step file c (Ok tt) c
+module _ {C : Type 0} (m : Meaning C) (step : Step) (file : ℕ → Name) (n : ℕ) where
+  pub looked_end : (c : C) → Looked m step file n c (Ok tt) c
   looked_end c = record { list = []; each = tt; went = went_end m c tt }
 
-  pub looked_then : (c c₁ c₂ : C) (r : Result (Unit {0}) SetFault) → Looked m step file c (Ok tt) c₁ → Looked m step file c₁ r c₂ → Looked m step file c r c₂
+  pub looked_then : (c c₁ c₂ : C) (r : Result (Unit {0}) SetFault) → Looked m step file n c (Ok tt) c₁ → Looked m step file n c₁ r c₂ → Looked m step file n c r c₂
   looked_then c c₁ c₂ r p q =
       record {
         list = p.list ++ q.list;
-        each = all_append m (Looking step file) p.list q.list p.each q.each;
+        each = all_append m (Looking step file n) p.list q.list p.each q.each;
         went = went_then m p.list q.list c c₁ c₂ tt r p.went q.went;
       }
 
-  looks_acts : (ts : List Task) → AllByRecursion (Looking step file) ts → AllByRecursion (λ a. Looks a.op) (acts ts)
+  looks_acts : (ts : List Task) → AllByRecursion (Looking step file n) ts → AllByRecursion (λ a. Looks a.op) (acts ts)
   looks_acts [] a = tt
   looks_acts (t ∷ ts) a = (a.0.looks, looks_acts ts a.1)
 
   -- looks leave what files hold
-  pub looked_same : (c c₁ : C) → Looked m step file c (Ok tt) c₁ → m.holds c₁ ≡ m.holds c
+  pub looked_same : (c c₁ : C) → Looked m step file n c (Ok tt) c₁ → m.holds c₁ ≡ m.holds c
   looked_same c c₁ p = looked_files m (acts p.list) c c₁ (looks_acts p.list p.each) p.went.ended
 
   went_ended : {V : Type 0} (ts : List Task) (c c₁ : C) (r : Result V SetFault) → Went m ts c r c₁ → Went m ts c (ended r) c₁
@@ -44,34 +46,43 @@ module _ {C : Type 0} (m : Meaning C) (step : Step) (file : ℕ → Name) where
 
   -- one look
   pub looked_one :
-      {V : Type 0} (c c₁ : C) (s : Site) (k : ℕ) (n : Name) (op : Op) (r : Result V SetFault) → s ≡ at step k → Looks op →
-      ((k ≡ 9) ⊎ (n ≡ file k)) → Went m (task s n op ∷ []) c r c₁ → Looked m step file c (ended r) c₁
-  looked_one c c₁ s k n op r e l w q =
+      {V : Type 0} (c c₁ : C) (s : Site) (k : ℕ) (w : Name) (op : Op) (r : Result V SetFault) → s ≡ at step k → Looks op →
+      FileTold file n w k → Went m (task s w op ∷ []) c r c₁ → Looked m step file n c (ended r) c₁
+  looked_one c c₁ s k w op r e l told q =
       record {
-        list = task s n op ∷ [];
+        list = task s w op ∷ [];
         each = (
-          subst (λ (x : Site). Looking step file (task x n op)) (sym e) (record { in_step = refl; no_record = refl; looks = l; named = w }),
+          subst (λ (x : Site). Looking step file n (task x w op)) (sym e) (record { in_step = refl; no_record = refl; looks = l; named = told }),
           tt,
         );
-        went = went_ended (task s n op ∷ []) c c₁ r q;
+        went = went_ended (task s w op ∷ []) c c₁ r q;
       }
 
-  looking_tasks : (k : ℕ) (n : Name) (list : List Act) → ((k ≡ 9) ⊎ (n ≡ file k)) → AllByRecursion (λ a. (a.name ≡ n) × Looks a.op) list → AllByRecursion (Looking step file) (tasks (at step k) list)
-  looking_tasks k n [] w a = tt
-  looking_tasks k n (x ∷ list) w a = (record { in_step = refl; no_record = refl; looks = a.0.1; named = by w }, looking_tasks k n list w a.1)
-    where
-      by : (k ≡ 9) ⊎ (n ≡ file k) → (k ≡ 9) ⊎ (x.name ≡ file k)
-      by (inl e) = inl e
-      by (inr e) = inr (a.0.0 ∙ e)
+  -- a look at a database
+  pub looked_database :
+      {V : Type 0} (c c₁ : C) (d : ℕ) (op : Op) (r : Result V SetFault) → Looks op → d < n → Went m (task (at step d) (file d) op ∷ []) c r c₁ → Looked m step file n c (ended r) c₁
+  looked_database c c₁ d op r l lt q = looked_one c c₁ (at step d) d (file d) op r refl l (inl (database_is_file n d lt, refl)) q
+
+  -- a look at the super-journal
+  pub looked_super :
+      {V : Type 0} (c c₁ : C) (s : Site) (w : Name) (op : Op) (r : Result V SetFault) → s ≡ at step 8 → w ≡ file 8 → Looks op → Went m (task s w op ∷ []) c r c₁ → Looked m step file n c (ended r) c₁
+  looked_super c c₁ s w op r e named l q = looked_one c c₁ s 8 w op r e l (inl (super_is_file n, sym named)) q
+
+  looking_tasks : (k : ℕ) (w : Name) (list : List Act) → FileTold file n w k → AllByRecursion (λ a. (a.name ≡ w) × Looks a.op) list → AllByRecursion (Looking step file n) (tasks (at step k) list)
+  looking_tasks k w [] told a = tt
+  looking_tasks k w (x ∷ list) told a = (
+    record { in_step = refl; no_record = refl; looks = a.0.1; named = subst (λ (v : Name). FileTold file n v k) (sym a.0.0) told },
+    looking_tasks k w list told a.1,
+  )
 
   -- several looks at one file
   pub looked_acts :
-      {V : Type 0} (c c₁ : C) (s : Site) (k : ℕ) (n : Name) (list : List Act) (r : Result V SetFault) → s ≡ at step k →
-      ((k ≡ 9) ⊎ (n ≡ file k)) → AllByRecursion (λ a. (a.name ≡ n) × Looks a.op) list → Went m (tasks s list) c r c₁ → Looked m step file c (ended r) c₁
-  looked_acts c c₁ s k n list r e w a q =
+      {V : Type 0} (c c₁ : C) (s : Site) (k : ℕ) (w : Name) (list : List Act) (r : Result V SetFault) → s ≡ at step k →
+      FileTold file n w k → AllByRecursion (λ a. (a.name ≡ w) × Looks a.op) list → Went m (tasks s list) c r c₁ → Looked m step file n c (ended r) c₁
+  looked_acts c c₁ s k w list r e told a q =
       record {
         list = tasks s list;
-        each = subst (λ (x : Site). AllByRecursion (Looking step file) (tasks x list)) (sym e) (looking_tasks k n list w a);
+        each = subst (λ (x : Site). AllByRecursion (Looking step file n) (tasks x list)) (sym e) (looking_tasks k w list told a);
         went = went_ended (tasks s list) c c₁ r q;
       }
 
@@ -92,14 +103,14 @@ says_more _ d d' f f' b b' p q r h = h
 module _ {C : Type 0} (m : Meaning C) where
   -- what only looked, and then was refused
   pub looked_refused :
-      {V : Type 0} (step : Step) (file : ℕ → Name) (c c₁ : C) (e : Refusal) (r : Result V Refusal) → IsErrAnd r (λ x. x ≡ e) → Looked m step file c (stop_of e) c₁ → Looked m step file c (dropped r) c₁
-  looked_refused {V} step file c c₁ e r h p = subst (λ (x : Result V Refusal). Looked m step file c (dropped x) c₁) (sym (passed_up r e h)) p
+      {V : Type 0} (step : Step) (file : ℕ → Name) (n : ℕ) (c c₁ : C) (e : Refusal) (r : Result V Refusal) → IsErrAnd r (λ x. x ≡ e) → Looked m step file n c (stop_of e) c₁ → Looked m step file n c (dropped r) c₁
+  looked_refused {V} step file n c c₁ e r h p = subst (λ (x : Result V Refusal). Looked m step file n c (dropped x) c₁) (sym (passed_up r e h)) p
 
   -- looks, and after them one that was refused
   pub looked_up :
-      {V : Type 0} (step : Step) (file : ℕ → Name) (c c₁ c₂ : C) (e : Refusal) (r : Result V Refusal) → IsErrAnd r (λ x. x ≡ e) → Looked m step file c (Ok tt) c₁ → Looked m step file c₁ (stop_of e) c₂ →
-      Looked m step file c (dropped r) c₂
-  looked_up step file c c₁ c₂ e r h p q = looked_refused step file c c₂ e r h (looked_then m step file c c₁ c₂ (stop_of e) p q)
+      {V : Type 0} (step : Step) (file : ℕ → Name) (n : ℕ) (c c₁ c₂ : C) (e : Refusal) (r : Result V Refusal) → IsErrAnd r (λ x. x ≡ e) → Looked m step file n c (Ok tt) c₁ → Looked m step file n c₁ (stop_of e) c₂ →
+      Looked m step file n c (dropped r) c₂
+  looked_up step file n c c₁ c₂ e r h p q = looked_refused step file n c c₂ e r h (looked_then m step file n c c₁ c₂ (stop_of e) p q)
 
 -- a told length is that of a present file
 pub told_some : (f : Option Bytes) (n : ℕ) → Some n ≡ length_told f → (b : Bytes) × (f ≡ Some b) × (n ≡ length b)
@@ -132,13 +143,14 @@ judge_looks : (n : Name) (f : Option Bytes) → AllByRecursion (λ a. (a.name �
 judge_looks n None = ((refl, tt), tt)
 judge_looks n (Some b) = ((refl, tt), ((refl, tt), tt))
 
-module _ {C : Type 0} (m : Meaning C) (step : Step) (file : ℕ → Name) where
-  -- a journal that is judged is only looked at
+module _ {C : Type 0} (m : Meaning C) (step : Step) (file : ℕ → Name) (n : ℕ) where
+  -- a database's journal that is judged is only looked at
   pub looked_judged :
-      {V : Type 0} (c c₁ : C) (k : ℕ) (f : Option Bytes) (r : Result V SetFault) → Went m (tasks (at step k) (judge_acts (file k) f)) c r c₁ →
-      Looked m step file c (ended r) c₁
-  looked_judged c c₁ k f r w = looked_acts m step file c c₁ (at step k) k (file k) (judge_acts (file k) f) r refl (inr refl) (judge_looks (file k) f) w
+      {V : Type 0} (c c₁ : C) (d k : ℕ) (f : Option Bytes) (r : Result V SetFault) → k ≡ 4 + d → d < n → Went m (tasks (at step k) (judge_acts (file k) f)) c r c₁ →
+      Looked m step file n c (ended r) c₁
+  looked_judged c c₁ d k f r e lt w =
+      looked_acts m step file n c c₁ (at step k) k (file k) (judge_acts (file k) f) r refl (inl (subst (λ (x : ℕ). is_file n x ≡ true) (sym e) (journal_is_file n d lt), refl)) (judge_looks (file k) f) w
 
   -- what was refused, and passed up
-  pub looked_failed : {V : Type 0} (c c₁ : C) (f : SetFault) (r : Result V SetFault) → IsErrAnd r (λ x. x ≡ f) → Looked m step file c (Err f) c₁ → Looked m step file c (ended r) c₁
-  looked_failed {V} c c₁ f r h p = subst (λ (x : Result V SetFault). Looked m step file c (ended x) c₁) (sym (passed_up r f h)) p
+  pub looked_failed : {V : Type 0} (c c₁ : C) (f : SetFault) (r : Result V SetFault) → IsErrAnd r (λ x. x ≡ f) → Looked m step file n c (Err f) c₁ → Looked m step file n c (ended r) c₁
+  looked_failed {V} c c₁ f r h p = subst (λ (x : Result V SetFault). Looked m step file n c (ended x) c₁) (sym (passed_up r f h)) p

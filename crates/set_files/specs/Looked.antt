@@ -8,7 +8,7 @@ use Rattle.refusal.specs.declared.refusals.Refusal.{Refusal}
 use Rattle.refusal.specs.declared.refusals.Refusal.TheVariants.{Damaged, Foreign, Database, Card}
 use Rattle.steps.specs.Tasks.{Task, Looks, Went}
 use Rattle.names.specs.declared.names.Names.{Names}
-use Rattle.names.specs.Files.{file_of}
+use Rattle.names.specs.Files.{file_of, how_many, FileNamed, NoFileNamed}
 
 -- an answer without its value
 abbrev pub ended : {V : Type 0} → Result V SetFault → Result (Unit {0}) SetFault
@@ -44,19 +44,23 @@ never k = ⊥
 abbrev pub never₂ : ℕ → ℕ → Type 0
 never₂ f k = ⊥
 
--- a call that looks at a file of the set, or at some other file, in a step
-pub record Looking (step : Step) (file : ℕ → Name) (t : Task) : Type 0 where
+-- the file that is told for a name: the set's that has it, or 9 where none of the set's has it
+abbrev pub FileTold : (ℕ → Name) → ℕ → Name → ℕ → Type 0
+FileTold file n w k = FileNamed file n w k ⊎ ((k ≡ 9) × NoFileNamed file n w)
+
+-- a call that looks at a file, in a step, told as the set's file or another
+pub record Looking (step : Step) (file : ℕ → Name) (n : ℕ) (t : Task) : Type 0 where
   pub in_step : t.site.step ≡ Some step
   pub no_record : t.site.«record» ≡ 0
   pub looks : Looks t.act.op
-  pub named : (t.site.file ≡ 9) ⊎ (t.act.name ≡ file t.site.file)
+  pub named : FileTold file n t.act.name t.site.file
 
 -- calls of a step that only look, done up to the first that the card refuses
-pub record Looked {C : Type 0} (m : Meaning C) (step : Step) (file : ℕ → Name) (c : C) (r : Result (Unit {0}) SetFault) (c' : C) : Type 0 where
+pub record Looked {C : Type 0} (m : Meaning C) (step : Step) (file : ℕ → Name) (n : ℕ) (c : C) (r : Result (Unit {0}) SetFault) (c' : C) : Type 0 where
   pub list : List Task
-  pub each : AllByRecursion (Looking step file) list
+  pub each : AllByRecursion (Looking step file n) list
   pub went : Went m list c r c'
 
--- a part of a recovery that only looks at files of the set
+-- a part of a recovery that only looks at files
 abbrev pub OnlyLooked : {C V : Type 0} → Meaning C → Step → Names → C → Result V Refusal → C → Type 0
-OnlyLooked m step names c r c' = Looked m step (file_of names) c (dropped r) c'
+OnlyLooked m step names c r c' = Looked m step (file_of names) (how_many names) c (dropped r) c'

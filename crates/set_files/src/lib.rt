@@ -7,5 +7,5 @@
 mod numbered;
 mod whole;
 
-pub use numbered::{delete_file, judge_numbered, length_of};
+pub use numbered::{delete_file, judge_numbered, length_named, length_of};
 pub use whole::journal_in;

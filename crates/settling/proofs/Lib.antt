@@ -1,2 +1,2 @@
-mod UpTo
+pub mod UpTo
 mod Restored

@@ -1,5 +1,5 @@
 // The set, run: with a power failure or a device fault at each call of the card, with damaged files, and
-// at the edges of its calls; and the numbers of its refusals.
+// at the edges of its calls; the file that each look of a recovery tells; and the numbers of its refusals.
 #![tactic(auto)]
 
 #[cfg(test)]
@@ -18,5 +18,7 @@ mod foreign;
 mod numbers;
 #[cfg(test)]
 mod scenes;
+#[cfg(test)]
+mod told;
 #[cfg(test)]
 mod trials;

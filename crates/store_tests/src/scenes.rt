@@ -22,7 +22,11 @@ impl<'a> Beside<'a> {
 }
 
 /// A card with the databases, and the files beside them.
-fn scene<'a>(rt: &impl Abort, image: &'a mut [u8; IMAGE], files: &[Beside<'_>]) -> DirectCard<'a> {
+pub fn scene<'a>(
+    rt: &impl Abort,
+    image: &'a mut [u8; IMAGE],
+    files: &[Beside<'_>],
+) -> DirectCard<'a> {
     let mut card = direct(rt, image, 2);
     for file in files {
         let made = [

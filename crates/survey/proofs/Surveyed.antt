@@ -192,6 +192,6 @@ module _ (files : Holds) (file : ℕ → Name) where
 
 -- what the looks at the journals told is of the files as they were before other looks
 pub all_before :
-    {C : Type 0} (m : Meaning C) (step : Step) (file : ℕ → Name) (n : ℕ) (c c₁ : C) (looks : List Look) → Looked m step file c (Ok tt) c₁ → AllLooked (m.holds c₁) file n looks →
+    {C : Type 0} (m : Meaning C) (step : Step) (file : ℕ → Name) (n : ℕ) (c c₁ : C) (looks : List Look) → Looked m step file n c (Ok tt) c₁ → AllLooked (m.holds c₁) file n looks →
     AllLooked (m.holds c) file n looks
-all_before m step file n c c₁ looks p all = subst (λ (x : Holds). AllLooked x file n looks) (looked_same m step file c c₁ p) all
+all_before m step file n c c₁ looks p all = subst (λ (x : Holds). AllLooked x file n looks) (looked_same m step file n c c₁ p) all

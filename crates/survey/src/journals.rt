@@ -1,7 +1,7 @@
 // The journals of a set, judged in order.
 ghost use Rattle.std.specs.Prelude.{◌≡◌, ℕ, ◌<◌, Some, MatchOption, ◌≢◌};
 ghost use Rattle.refusal.specs.declared.step.Step.TheVariants.{R1};
-ghost use Rattle.names.specs.Files.{file_of};
+ghost use Rattle.names.specs.Files.{file_of, how_many};
 ghost use Rattle.set_files.specs.Looked.{OnlyLooked};
 ghost use Rattle.survey.specs.Linked.{LinkAs, look_at, link_of};
 ghost use Rattle.survey.specs.Tells.{TellsNamed, TellsJournal, TellsJournals};
@@ -10,9 +10,8 @@ use crate::look::{Link, Look};
 use card::Card;
 use journal::{JOURNAL_LIMIT, Verdict};
 use names::{DATABASES, Names, SUPER_JOURNAL, journal_of};
-use refusal::{FOREIGN, Refusal, Step};
-use set_files::{journal_in, judge_numbered};
-use steps::Site;
+use refusal::{Refusal, Step};
+use set_files::{journal_in, judge_numbered, length_named};
 
 /// Whose super-journal has the name.
 fn link_of(names: &Names, name: &[u8]) -> Link
@@ -35,31 +34,26 @@ fn look_at_super<C: Card>(
     ensures looked { OnlyLooked C.Card.meaning R1 names.now card.old result card.new }
     ensures told { TellsNamed C.Card.meaning names.now card.old records name.now result }
 {
-    let link = link_of(names, name);
-    let file = match link {
-        Link::Ours => SUPER_JOURNAL,
-        Link::Other => FOREIGN,
-    };
-    match Site::new(Step::R1, file).length(card, name)? {
+    match length_named(card, names, Step::R1, name)? {
         None => Ok(Look::Spent),
         Some(_) => Ok(Look::Hot {
             records,
-            link: Some(link),
+            link: Some(link_of(names, name)),
         }),
     }
 }
 
 /// Judges the journal of a database.
-// A database goes by its number, as in the calls and in the faults. That it is below four is what
-// `journal_of` wants; a type for such numbers would be taken apart again at each site and each name.
-#[tactic(auto, using(set_files::proofs::Looks::looked_judged))]
+// A database goes by its number, as in the calls and in the faults. That it is one of the set's is what
+// `journal_of` wants, and why the journal's number is told; a type for such numbers would be taken apart
+// again at each site and each name.
 fn judge_journal<C: Card>(
     card: &mut C,
     names: &Names,
     d: usize,
     buffer: &mut [u8; JOURNAL_LIMIT],
 ) -> Result<Look, Refusal>
-    requires { d < 4 }
+    requires { d < how_many names.now }
     ensures looked { OnlyLooked C.Card.meaning R1 names.now card.old result card.new }
     ensures told { TellsJournal C.Card.meaning names.now card.old d result }
 {

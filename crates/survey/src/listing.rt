@@ -2,7 +2,7 @@
 ghost use Rattle.std.specs.Prelude.{◌≡◌, ℕ, ◌<◌, List, length as count_of, IfOk, Some, MatchOption};
 ghost use Rattle.super_journal.specs.Written.{texts};
 ghost use Rattle.refusal.specs.declared.step.Step.TheVariants.{R1};
-ghost use Rattle.names.specs.Files.{file_of, super_file};
+ghost use Rattle.names.specs.Files.{file_of, how_many, super_file};
 ghost use Rattle.set_files.specs.Files.{Present};
 ghost use Rattle.set_files.specs.Looked.{Looked, OnlyLooked, ended};
 ghost use Rattle.survey.specs.Tells.{TellsListed, TellsNames, TellsList, TellsSuper};
@@ -11,7 +11,7 @@ use card::Card;
 use journal::JOURNAL_LIMIT;
 use names::{Names, SUPER_JOURNAL};
 use refusal::{FOREIGN, Refusal, SetFault, Step};
-use set_files::length_of;
+use set_files::{length_named, length_of};
 use steps::Site;
 use super_journal::read_names;
 
@@ -29,7 +29,7 @@ fn check_listed<C: Card>(card: &mut C, names: &Names, name: &[u8]) -> Result<(),
     if names.is_journal(name) {
         return Ok(());
     }
-    match Site::new(Step::R1, FOREIGN).length(card, name)? {
+    match length_named(card, names, Step::R1, name)? {
         None => Ok(()),
         Some(_) => Err(Refusal::Foreign(FOREIGN)),
     }
@@ -62,7 +62,7 @@ fn read_super<'a, C: Card>(
     buffer: &'a mut [u8; JOURNAL_LIMIT],
 ) -> Result<Option<&'a [u8]>, SetFault>
     requires { Present (C.Card.meaning.holds card.old (super_file names.now)) }
-    ensures looked { Looked C.Card.meaning R1 (file_of names.now) card.old (ended result) card.new }
+    ensures looked { Looked C.Card.meaning R1 (file_of names.now) (how_many names.now) card.old (ended result) card.new }
     ensures told { IfOk result (λ o. (b : List ℕ) × (C.Card.meaning.holds card.old (super_file names.now) ≡ Some b) × MatchOption o (17724 < count_of b) (λ bytes. bytes.now ≡ b)) }
 {
     let length = length_of(card, names, Step::R1, SUPER_JOURNAL)?.unwrap() as usize;

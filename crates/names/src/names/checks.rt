@@ -5,14 +5,11 @@ ghost use Rattle.names.specs.Files.{names_in, names_of};
 ghost use Rattle.names.specs.Examples.{Examples};
 ghost use Rattle.names.specs.Refused.{Refused, Checked, FirstBad};
 
-use crate::file::SUPER_JOURNAL;
+use crate::file::FILES;
 use crate::names::{NAME_LIMIT, NameList, Names};
 use few::Few;
 use page_map::DATABASES;
 use refusal::Refusal;
-
-/// The files of four databases: the databases, their journals, the super-journal.
-const FILES: usize = SUPER_JOURNAL + 1;
 
 /// Whether a name has 1 to 24 bytes.
 fn is_short(name: &[u8]) -> bool

@@ -2,9 +2,9 @@
 ghost use Rattle.std.specs.Prelude.{◌≡◌, ◌<◌, ◌≤◌, ◌++◌, length as count, if◌then◌else◌, true, false, Some, None, Decides, MatchOption, nat_lt};
 ghost use Rattle.std.specs.Option.{option_map};
 ghost use Rattle.names.specs.Names.{journal_ending, super_ending, listed, is_file, file_name, JournalOf};
-ghost use Rattle.names.specs.Files.{names_in, names_of, file_of, how_many};
+ghost use Rattle.names.specs.Files.{names_in, names_of, file_of, how_many, FileNamed, NoFileNamed};
 
-use crate::file::{File, SUPER_JOURNAL, journal_of};
+use crate::file::{FILES, File, SUPER_JOURNAL, journal_of};
 use crate::file_name::FileName;
 use crate::names::{NameList, Names};
 
@@ -25,6 +25,16 @@ impl NameList {
             File::Journal(i) => Some(FileName::ending(names[i].as_slice(), JOURNAL_ENDING)),
             File::SuperJournal => Some(FileName::ending(names[0].as_slice(), SUPER_ENDING)),
         }
+    }
+
+    /// Whether there is a file of that number and it has the name.
+    fn has(&self, number: usize, name: &[u8]) -> bool
+        ensures { Decides result ((is_file (count (names_in self.now)) number ≡ true) × (file_name (listed (names_in self.now)) number ≡ name.now)) }
+    {
+        let Some(file) = self.name_of(number) else {
+            return false;
+        };
+        file.bytes() == name
     }
 }
 
@@ -60,6 +70,14 @@ impl Names {
         self.list
             .name_of(file)
             .unwrap_or(FileName::ending(&[], &[]))
+    }
+
+    /// The number of the file that has the name, if a file has it. The names of all files differ, so
+    /// no other file has it.
+    pub fn number_of(&self, name: &[u8]) -> Option<usize>
+        ensures { MatchOption result (NoFileNamed (file_of self.now) (how_many self.now) name.now) (FileNamed (file_of self.now) (how_many self.now) name.now) }
+    {
+        (0..FILES).find(|k| self.list.has(*k, name))
     }
 
     /// Whether the name is that of a journal of the list.

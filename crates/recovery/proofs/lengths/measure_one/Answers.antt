@@ -1,15 +1,16 @@
-use Rattle.std.proofs.Common.{◌≡◌, ℕ, None, MatchOption, refl, inr, rules}
-use Rattle.names.specs.Files.{file_of}
-use Rattle.set_files.proofs.Looks.{looked_one, looked_refused}
+use Rattle.std.proofs.Common.{◌≡◌, ℕ, None, MatchOption, ap, rules}
+use Rattle.steps.proofs.Went.{went_up, went_value}
+use Rattle.set_files.specs.Looked.{dropped}
+use Rattle.set_files.proofs.Looks.{passed_up}
 use Rattle.recovery.specs.Measured.{Pages}
 use Rattle.recovery.proofs.InPages.{dropped_pages, told_measured}
 use Rattle.recovery.proofs.lengths.measure_one.Goals as goal
 
-pub returns-in_err-length-clause-looked : goal.returns-in_err-length-clause-looked
-returns-in_err-length-clause-looked g c = looked_refused _ _ _ _ _ _ _ c.from_residual.ensures.1 (looked_one _ _ _ _ _ _ _ _ _ _ refl tt (inr refl) c.in_err-length.ensures.went)
+pub returns-in_err-length-clause-went : goal.returns-in_err-length-clause-went
+returns-in_err-length-clause-went g c = went_up _ _ _ _ _ _ (ap dropped (passed_up _ _ c.from_residual.ensures.1)) c.in_err-length.ensures.went
 
-pub returns-clause-looked : goal.returns-clause-looked
-returns-clause-looked g c = rw (dropped_pages _ _ _ c.ok_or.ensures.value) (looked_one _ _ (file_of c.args.names.now) _ _ _ _ _ _ _ refl tt (inr refl) c.in_ok-length.ensures.went)
+pub returns-clause-went : goal.returns-clause-went
+returns-clause-went g c = rw (dropped_pages _ _ _ c.ok_or.ensures.value) (went_value _ _ _ _ _ _ c.in_ok-length.ensures.went)
 
 pub returns-clause-told : goal.returns-clause-told
 returns-clause-told g c =

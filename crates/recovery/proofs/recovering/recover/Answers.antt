@@ -21,7 +21,7 @@ returns-in_err-found g c =
 pub settle-requires : goal.settle-requires
 settle-requires g c =
     let seen = c.in_ok-found.ensures.told.journals.reported in
-    let same = looked_same _ _ _ _ _ c.in_ok-found.ensures.looked in
+    let same = looked_same _ _ _ _ _ _ c.in_ok-found.ensures.looked in
     (seen.0, subst (λ (x : Holds). AllSeen x (file_of c.args.names.now) (how_many c.args.names.now) c.in_ok-found.found seen.0) (sym same) seen.1)
 
 pub returns-in_err-settle : goal.returns-in_err-settle
@@ -40,7 +40,7 @@ returns-in_err-sizes g c =
     (settled _ _ _ _ _ _ _ _ c.in_ok-settle.ensures
     (record {
       sizes = Err c.in_err-sizes.field-0.0;
-      looked = c.in_err-sizes.ensures.looked;
+      went = c.in_err-sizes.ensures.went;
       measured = c.in_err-sizes.ensures.told;
       answer = passed_up _ _ c.from_residual-in_err-sizes.ensures.1;
     }))
@@ -49,4 +49,4 @@ pub returns : goal.returns
 returns g c =
     surveyed _ _ _ _ _ _ _ _ _ c.power.ensures c.in_ok-found.ensures.looked c.in_ok-found.ensures.told
     (settled _ _ _ _ _ _ _ _ c.in_ok-settle.ensures
-    (record { sizes = Ok c.in_ok-sizes.sizes; looked = c.in_ok-sizes.ensures.looked; measured = c.in_ok-sizes.ensures.told; answer = refl }))
+    (record { sizes = Ok c.in_ok-sizes.sizes; went = c.in_ok-sizes.ensures.went; measured = c.in_ok-sizes.ensures.told; answer = refl }))

@@ -18,11 +18,11 @@ journal_in-requires g c =
 
 pub returns-in_err-judge_numbered-clause-looked : goal.returns-in_err-judge_numbered-clause-looked
 returns-in_err-judge_numbered-clause-looked g c =
-    looked_refused _ _ _ _ _ _ _ c.from_residual.ensures.1 (looked_judged _ _ (file_of c.args.names.now) _ _ c.journal_of-file.result _ _ c.in_err-judge_numbered.ensures.went)
+    looked_refused _ _ _ _ _ _ _ _ c.from_residual.ensures.1 (looked_judged _ _ (file_of c.args.names.now) _ _ _ c.args.d c.journal_of-file.result _ _ c.journal_of-file.ensures c.requires c.in_err-judge_numbered.ensures.went)
 
 pub returns-in-Some-clause-looked : goal.returns-in-Some-clause-looked
 returns-in-Some-clause-looked g c =
-    looked_then _ _ _ _ _ _ _ (looked_judged _ _ (file_of c.args.names.now) _ _ c.journal_of-file.result _ _ c.in_ok-judge_numbered.ensures.went) c.look_at_super.ensures.looked
+    looked_then _ _ _ _ _ _ _ _ (looked_judged _ _ (file_of c.args.names.now) _ _ _ c.args.d c.journal_of-file.result _ _ c.journal_of-file.ensures c.requires c.in_ok-judge_numbered.ensures.went) c.look_at_super.ensures.looked
 
 pub returns-in-Some-clause-told : goal.returns-in-Some-clause-told
 returns-in-Some-clause-told g c =
@@ -32,7 +32,7 @@ returns-in-Some-clause-told g c =
     let t = told_judged _ _ _ _ _ c.in-Some-Sound.is c.in_ok-judge_numbered.ensures.told in
     let s = judged_sound _ _ _ t.2 c.in-Some-Sound.field-0-is in
     let of = c.journal_in.ensures s.0 _ s.1 s.3 (journal_read c.args.buffer.now _ t.0 s.0 s.1 s.2 t.3) in
-    let same = looked_same _ _ _ _ _ (looked_judged _ R1 file _ _ c.journal_of-file.result _ _ c.in_ok-judge_numbered.ensures.went) in
+    let same = looked_same _ _ _ _ _ _ (looked_judged _ R1 file _ _ _ c.args.d c.journal_of-file.result _ _ c.journal_of-file.ensures c.requires c.in_ok-judge_numbered.ensures.went) in
     let held : files (file (4 + d)) ≡ Some t.0 = subst (λ (k : ℕ). files (file k) ≡ Some t.0) c.journal_of-file.ensures t.1 in
     told_more c.look_at_super.result _ (LookedAs files file d) _ (λ f k. (f ≡ 4 + d) × DamagedAt files file d k) _ never _ never
     (λ x h.
@@ -50,3 +50,19 @@ returns-in-None-super_journal-clause-told g c =
     let of = c.journal_in.ensures s.0 _ s.1 s.3 (journal_read c.args.buffer.now _ t.0 s.0 s.1 s.2 t.3) in
     let held : files (file (4 + d)) ≡ Some t.0 = subst (λ (k : ℕ). files (file k) ≡ Some t.0) c.journal_of-file.ensures t.1 in
     alone_hot files file d t.0 s.0 _ held s.1 s.2 (c.in-None-super_journal.ensures.told s.0 of) s.3.count
+
+pub returns-in-None-clause-looked : goal.returns-in-None-clause-looked
+returns-in-None-clause-looked g c =
+    looked_judged _ _ (file_of c.args.names.now) _ _ _ c.args.d c.journal_of-file.result _ _ c.journal_of-file.ensures c.requires c.in_ok-judge_numbered.ensures.went
+
+pub returns-in-Some-Spent-clause-looked : goal.returns-in-Some-Spent-clause-looked
+returns-in-Some-Spent-clause-looked g c =
+    looked_judged _ _ (file_of c.args.names.now) _ _ _ c.args.d c.journal_of-file.result _ _ c.journal_of-file.ensures c.requires c.in_ok-judge_numbered.ensures.went
+
+pub returns-in-Some-Damaged-clause-looked : goal.returns-in-Some-Damaged-clause-looked
+returns-in-Some-Damaged-clause-looked g c =
+    looked_judged _ _ (file_of c.args.names.now) _ _ _ c.args.d c.journal_of-file.result _ _ c.journal_of-file.ensures c.requires c.in_ok-judge_numbered.ensures.went
+
+pub returns-in-None-super_journal-clause-looked : goal.returns-in-None-super_journal-clause-looked
+returns-in-None-super_journal-clause-looked g c =
+    looked_judged _ _ (file_of c.args.names.now) _ _ _ c.args.d c.journal_of-file.result _ _ c.journal_of-file.ensures c.requires c.in_ok-judge_numbered.ensures.went

@@ -13,7 +13,7 @@ ap_at : (P : List Name → Type 0) {x y : List (Bor (List ℕ))} → x ≡ y →
 ap_at P e h = subst (λ (s : List (Bor (List ℕ))). P (texts s)) e h
 
 pub returns-in_err-list-clause-looked : goal.returns-in_err-list-clause-looked
-returns-in_err-list-clause-looked g c = looked_refused _ _ _ _ _ _ _ (absent_refused _ _ _ _ c.in_err-list.ensures.value c.from_residual.ensures.1).1 (looked_end _ _ _ _)
+returns-in_err-list-clause-looked g c = looked_refused _ _ _ _ _ _ _ _ (absent_refused _ _ _ _ c.in_err-list.ensures.value c.from_residual.ensures.1).1 (looked_end _ _ _ _ _)
 
 pub returns-clause-told : goal.returns-clause-told
 returns-clause-told g c =

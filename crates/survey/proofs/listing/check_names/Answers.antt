@@ -10,11 +10,11 @@ use Rattle.survey.specs.Finds.{JournalName, Stray}
 use Rattle.survey.proofs.listing.check_names.Goals as goal
 
 pub loop-name-init : goal.loop-name-init
-loop-name-init g c = (looked_end _ _ _ _, λ k lt. absurd (omega arith))
+loop-name-init g c = (looked_end _ _ _ _ _, λ k lt. absurd (omega arith))
 
 pub returns-in_err-check_listed-clause-looked : goal.returns-in_err-check_listed-clause-looked
 returns-in_err-check_listed-clause-looked g c =
-    looked_up _ _ _ _ _ _ _ _ c.from_residual.ensures.1 c.loop-name.invariant.0 c.in_err-check_listed.ensures.looked
+    looked_up _ _ _ _ _ _ _ _ _ c.from_residual.ensures.1 c.loop-name.invariant.0 c.in_err-check_listed.ensures.looked
 
 pub returns-in_err-check_listed-clause-told : goal.returns-in_err-check_listed-clause-told
 returns-in_err-check_listed-clause-told g c =
@@ -25,7 +25,7 @@ returns-in_err-check_listed-clause-told g c =
     let files = g.C.Card.meaning.holds c.args.card.now in
     let here : Name = (get_or list i (record { ref_ptr = (0, 0); now = [] })).now in
     let name : here ≡ get_or (texts list) i [] = sym (text_at list i) in
-    let same = looked_same _ _ _ _ _ c.loop-name.invariant.0 in
+    let same = looked_same _ _ _ _ _ _ c.loop-name.invariant.0 in
     let less : i < length (texts list) = omega (arith, length_texts list) in
     told_up c.from_residual.result _ _ never₂ _ _ (λ f. (f ≡ 9) × Stray files file n (texts list)) never _ c.from_residual.ensures.1 (λ f k h. h)
     (λ f h. (
@@ -49,8 +49,8 @@ loop-name-preserved g c =
     let here : Name = (get_or list i (record { ref_ptr = (0, 0); now = [] })).now in
     let name : here ≡ get_or (texts list) i [] = sym (text_at list i) in
     let old = c.loop-name.invariant in
-    let same = looked_same _ _ _ _ _ old.0 in (
-      looked_then _ _ _ _ _ _ _ old.0 c.in_ok-check_listed.ensures.looked,
+    let same = looked_same _ _ _ _ _ _ old.0 in (
+      looked_then _ _ _ _ _ _ _ _ old.0 c.in_ok-check_listed.ensures.looked,
       below_more (λ (k : ℕ). JournalName file n (get_or (texts list) k []) ⊎ (files (get_or (texts list) k []) ≡ None)) _ old.1
           (subst (λ (w : Name). JournalName file n w ⊎ (files w ≡ None)) name
           (subst (λ (x : Holds). JournalName file n here ⊎ (x here ≡ None)) same c.in_ok-check_listed.ensures.told)),

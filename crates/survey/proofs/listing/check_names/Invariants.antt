@@ -8,5 +8,5 @@ use Rattle.survey.proofs.listing.check_names.Given as goal
 
 abbrev pub invariant-loop-name : goal.invariant-loop-name
 invariant-loop-name g l =
-    Looked g.C.Card.meaning R1 (file_of l.names) l.initial.card (Ok tt) l.card
+    Looked g.C.Card.meaning R1 (file_of l.names) (how_many l.names) l.initial.card (Ok tt) l.card
     × ((k : ℕ) → k < l.name-index → JournalName (file_of l.names) (how_many l.names) (get_or (texts l.list) k []) ⊎ (g.C.Card.meaning.holds l.initial.card (get_or (texts l.list) k []) ≡ None))

@@ -13,11 +13,11 @@ returns-in_err-bytes-clause-told g c =
     rw (passed_up _ _ p.1) (refl, refl, (t.0, t.1, λ ns ok e. omega (arith, long, ap length e, names_short ns ok)))
 
 pub returns-clause-looked : goal.returns-clause-looked
-returns-clause-looked g c = looked_then _ _ _ _ _ _ _ c.in_ok-read_super.ensures.looked c.check_list.ensures.looked
+returns-clause-looked g c = looked_then _ _ _ _ _ _ _ _ c.in_ok-read_super.ensures.looked c.check_list.ensures.looked
 
 pub returns-clause-told : goal.returns-clause-told
 returns-clause-told g c =
     let t = c.in_ok-read_super.ensures.told in
     let bytes = MatchOption-at_some _ _ _ c.in_ok-bytes.ensures.ok_part t.2 in
     super_told g.C.Card.meaning c.args.names.now c.args.card.now c.read_super.new.card c.in_ok-bytes.bytes.now c.check_list.result
-    (looked_same _ _ _ _ _ c.in_ok-read_super.ensures.looked) (t.1 ∙ ap (λ (x : Bytes). Some x) (sym bytes)) c.check_list.ensures.told
+    (looked_same _ _ _ _ _ _ c.in_ok-read_super.ensures.looked) (t.1 ∙ ap (λ (x : Bytes). Some x) (sym bytes)) c.check_list.ensures.told

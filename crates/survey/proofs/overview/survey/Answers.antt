@@ -12,7 +12,7 @@ use Rattle.survey.proofs.overview.survey.Goals.{then-is_some+in_ok-check_super, 
 
 pub returns-in_err-looks-clause-looked : goal.returns-in_err-looks-clause-looked
 returns-in_err-looks-clause-looked g c =
-    looked_up _ _ _ _ _ _ _ _ c.from_residual-in_err-looks.ensures.1 c.in_ok-all_present.ensures.looked c.in_err-looks.ensures.looked
+    looked_up _ _ _ _ _ _ _ _ _ c.from_residual-in_err-looks.ensures.1 c.in_ok-all_present.ensures.looked c.in_err-looks.ensures.looked
 
 pub returns-in_err-looks-clause-told : goal.returns-in_err-looks-clause-told
 returns-in_err-looks-clause-told g c =
@@ -20,7 +20,7 @@ returns-in_err-looks-clause-told g c =
     let n = how_many c.args.names.now in
     let files = g.C.Card.meaning.holds c.args.card.now in
     let first = c.in_ok-all_present.ensures in
-    let same = looked_same _ _ _ _ _ first.looked in
+    let same = looked_same _ _ _ _ _ _ first.looked in
     told_up _ _ _ _ (Damage files file n) _ (Stranger files file n) _ (FirstAbsent files file n) c.from_residual-in_err-looks.ensures.1
     (λ f k h.
     inl (
@@ -36,7 +36,7 @@ returns-in_err-looks-clause-told g c =
     (λ f h. absurd h) (λ f h. absurd h) c.in_err-looks.ensures.told
 
 pub returns-in-Some-clause-looked : goal.returns-in-Some-clause-looked
-returns-in-Some-clause-looked g c = looked_then _ _ _ _ _ _ _ c.in_ok-all_present.ensures.looked c.in_ok-looks.ensures.looked
+returns-in-Some-clause-looked g c = looked_then _ _ _ _ _ _ _ _ c.in_ok-all_present.ensures.looked c.in_ok-looks.ensures.looked
 
 pub returns-in-Some-clause-told : goal.returns-in-Some-clause-told
 returns-in-Some-clause-told g c =
@@ -60,12 +60,12 @@ check_super-requires g c =
     let looks = c.in_ok-looks.looks in
     let all = all_before _ _ file n _ _ looks first.looked c.in_ok-looks.ensures.told in
     let here = some_linked _ _ _ (sym c.is_some.ensures ∙ c.if-is_some.true) c.first_linked-2.ensures in
-    let same = looked_same _ _ _ _ _ (looked_then _ _ _ _ _ _ _ first.looked c.in_ok-looks.ensures.looked) in
+    let same = looked_same _ _ _ _ _ _ (looked_then _ _ _ _ _ _ _ _ first.looked c.in_ok-looks.ensures.looked) in
     subst (λ (x : Holds). Present (x (file 8))) (sym same) (asked_present files file n (asked_by files file n looks all here.0 here.1.0 here.1.1))
 
 pub returns-in_err-check_super-clause-looked : goal.returns-in_err-check_super-clause-looked
 returns-in_err-check_super-clause-looked g c =
-    looked_up _ _ _ _ _ _ _ _ c.from_residual-in_err-check_super.ensures.1 (looked_then _ _ _ _ _ _ _ c.in_ok-all_present.ensures.looked c.in_ok-looks.ensures.looked)
+    looked_up _ _ _ _ _ _ _ _ _ c.from_residual-in_err-check_super.ensures.1 (looked_then _ _ _ _ _ _ _ _ c.in_ok-all_present.ensures.looked c.in_ok-looks.ensures.looked)
     c.in_err-check_super.ensures.looked
 
 pub returns-in_err-check_super-clause-told : goal.returns-in_err-check_super-clause-told
@@ -78,7 +78,7 @@ returns-in_err-check_super-clause-told g c =
     let looks = c.in_ok-looks.looks in
     let all = all_before _ _ file n _ _ looks first.looked c.in_ok-looks.ensures.told in
     let here = some_linked _ _ _ (sym c.is_some.ensures ∙ c.if-is_some.true) c.first_linked-2.ensures in
-    let same = looked_same _ _ _ _ _ (looked_then _ _ _ _ _ _ _ first.looked c.in_ok-looks.ensures.looked) in
+    let same = looked_same _ _ _ _ _ _ (looked_then _ _ _ _ _ _ _ _ first.looked c.in_ok-looks.ensures.looked) in
     let seen = all_seen files file n looks all in
     let ours = names_ours files file n looks all n (omega arith) few (λ d lt e. c.in_default.ensures d (omega arith) e) in
     let asked = asked_by files file n looks all here.0 here.1.0 here.1.1 in
@@ -110,9 +110,9 @@ returns-in_err-check_super-clause-told g c =
 
 pub returns-clause-looked : goal.returns-clause-looked
 returns-clause-looked g c =
-    let both = looked_then _ _ _ _ _ _ _ c.in_ok-all_present.ensures.looked c.in_ok-looks.ensures.looked in
+    let both = looked_then _ _ _ _ _ _ _ _ c.in_ok-all_present.ensures.looked c.in_ok-looks.ensures.looked in
     elim c.if-is_some.branch [
-      | then-is_some+in_ok-check_super w ↦ rw w.card-is (looked_then _ _ _ _ _ _ _ both w.in_ok-check_super.ensures.looked)
+      | then-is_some+in_ok-check_super w ↦ rw w.card-is (looked_then _ _ _ _ _ _ _ _ both w.in_ok-check_super.ensures.looked)
       | else-is_some w ↦ rw w.card-is both
     ]
 
@@ -125,7 +125,7 @@ returns-clause-told g c =
     let first = c.in_ok-all_present.ensures in
     let looks = c.in_ok-looks.looks in
     let all = all_before _ _ file n _ _ looks first.looked c.in_ok-looks.ensures.told in
-    let same = looked_same _ _ _ _ _ (looked_then _ _ _ _ _ _ _ first.looked c.in_ok-looks.ensures.looked) in
+    let same = looked_same _ _ _ _ _ _ (looked_then _ _ _ _ _ _ _ _ first.looked c.in_ok-looks.ensures.looked) in
     record {
       present = first.told;
       journals = reported files file n looks all c.found_in.result few c.found_in.ensures;

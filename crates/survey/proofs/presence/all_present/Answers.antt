@@ -1,24 +1,24 @@
-use Rattle.std.proofs.Common.{◌≡◌, ℕ, None, sym, refl, ◌∙◌, subst, inr, arith, below_more}
-use Rattle.names.specs.Files.{file_of}
+use Rattle.std.proofs.Common.{◌≡◌, ℕ, None, sym, ◌∙◌, subst, arith, below_more}
+use Rattle.names.specs.Files.{how_many, file_of}
 use Rattle.set_files.specs.Files.{Holds, Present}
-use Rattle.set_files.proofs.Looks.{looked_end, looked_then, looked_same, looked_one, looked_up, told_some, told_absent, passed_up, absent_refused}
+use Rattle.set_files.proofs.Looks.{looked_end, looked_then, looked_same, looked_database, looked_up, told_some, told_absent, passed_up, absent_refused}
 use Rattle.survey.proofs.presence.all_present.Goals as goal
 
 pub loop-d-init : goal.loop-d-init
-loop-d-init g c = (looked_end _ _ _ _, λ k lt. absurd (omega arith))
+loop-d-init g c = (looked_end _ _ _ _ _, λ k lt. absurd (omega arith))
 
 pub returns-in_err-length_of-clause-looked : goal.returns-in_err-length_of-clause-looked
 returns-in_err-length_of-clause-looked g c =
-    looked_up _ _ _ _ _ _ _ _ c.from_residual.ensures.1 c.loop-d.invariant.0 (looked_one _ _ _ _ _ _ _ _ _ _ refl tt (inr refl) c.in_err-length_of.ensures.went)
+    looked_up _ _ _ _ _ _ _ _ _ c.from_residual.ensures.1 c.loop-d.invariant.0 (looked_database _ _ _ (how_many c.args.names.now) _ _ c.loop-d.d _ _ tt (omega arith) c.in_err-length_of.ensures.went)
 
 pub returns-in_err-ok_or-clause-looked : goal.returns-in_err-ok_or-clause-looked
 returns-in_err-ok_or-clause-looked g c =
-    looked_up _ _ _ _ _ _ _ _ (absent_refused _ _ _ _ c.in_err-ok_or.ensures.value c.from_residual-in_err-ok_or.ensures.1).1 c.loop-d.invariant.0
-    (looked_one _ _ _ _ _ _ _ _ _ _ refl tt (inr refl) c.in_ok-length_of.ensures.went)
+    looked_up _ _ _ _ _ _ _ _ _ (absent_refused _ _ _ _ c.in_err-ok_or.ensures.value c.from_residual-in_err-ok_or.ensures.1).1 c.loop-d.invariant.0
+    (looked_database _ _ _ (how_many c.args.names.now) _ _ c.loop-d.d _ _ tt (omega arith) c.in_ok-length_of.ensures.went)
 
 pub returns-in_err-ok_or-clause-told : goal.returns-in_err-ok_or-clause-told
 returns-in_err-ok_or-clause-told g c =
-    let same = looked_same _ _ _ _ _ c.loop-d.invariant.0 in
+    let same = looked_same _ _ _ _ _ _ c.loop-d.invariant.0 in
     let p = absent_refused _ _ _ _ c.in_err-ok_or.ensures.value c.from_residual-in_err-ok_or.ensures.1 in
     let gone = told_absent _ _ p.0 c.in_ok-length_of.ensures.told in
     rw (passed_up _ _ p.1)
@@ -27,8 +27,8 @@ returns-in_err-ok_or-clause-told g c =
 pub loop-d-preserved : goal.loop-d-preserved
 loop-d-preserved g c =
     let file = file_of c.args.names.now in
-    let same = looked_same _ _ _ _ _ c.loop-d.invariant.0 in
+    let same = looked_same _ _ _ _ _ _ c.loop-d.invariant.0 in
     let there = told_some _ _ (sym c.in_ok-ok_or.ensures.ok_part ∙ c.in_ok-length_of.ensures.told) in (
-      looked_then _ _ _ _ _ _ _ c.loop-d.invariant.0 (looked_one _ _ _ _ _ _ _ _ _ _ refl tt (inr refl) c.in_ok-length_of.ensures.went),
+      looked_then _ _ _ _ _ _ _ _ c.loop-d.invariant.0 (looked_database _ _ _ (how_many c.args.names.now) _ _ c.loop-d.d _ _ tt (omega arith) c.in_ok-length_of.ensures.went),
       below_more (λ (k : ℕ). Present (g.C.Card.meaning.holds c.args.card.now (file k))) _ c.loop-d.invariant.1 (subst (λ (h : Holds). Present (h (file c.loop-d.d))) same (there.0, there.1)),
     )
