@@ -7,6 +7,7 @@ use journal::{JOURNAL_LIMIT, MAGIC};
 use journal_writer::{put_count, put_header, put_name, put_record};
 use recovery::Found;
 use refusal::Refusal;
+use std::array;
 use std::process::Abort;
 use store::Set;
 
@@ -94,17 +95,25 @@ const NAMED: [u8; 16] = [
     0, 0, 0, 33, 0, 0, 0x0c, 0x81, 0xd9, 0xd5, 0x05, 0xf9, 0x20, 0xa1, 0x63, 0xd7,
 ];
 
-// No writer makes these, so they are made byte by byte.
+/// A journal with a super-journal's name of 33 bytes.
+fn named_too_long(sound: &[u8; LINKED]) -> [u8; PLAIN + 53] {
+    array::from_fn(|place| if place < PLAIN + 4 {
+        sound[place]
+    } else {
+        // before what follows the name this is no place of it
+        *NAMED.get(place.wrapping_sub(PLAIN + 37)).unwrap_or(&b'a')
+    })
+}
+
+// No writer makes these two, so they are made byte by byte.
 #[test]
 fn a_size_and_a_name_one_past_their_limits_are_damage(rt: HostRuntime) {
     let sound = journal(&rt, b"a-mj");
     let mut large = sound;
-    large[18..20].copy_from_slice(&[0x10, 0x01]);
+    large[18] = 0x10;
+    large[19] = 0x01;
     check_damaged(&rt, "a size of 4,097", &large[0..PLAIN], 0);
-    let mut long = [b'a'; PLAIN + 53];
-    long[0..PLAIN + 4].copy_from_slice(&sound[0..PLAIN + 4]);
-    long[PLAIN + 37..].copy_from_slice(&NAMED);
-    check_damaged(&rt, "a name of 33 bytes", &long, 0);
+    check_damaged(&rt, "a name of 33 bytes", &named_too_long(&sound), 0);
 }
 
 /// 16 slots, each with room for a file longer than any journal.
