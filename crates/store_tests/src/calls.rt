@@ -227,20 +227,25 @@ const SAVEPOINTS: [(Call, Answer); 15] = [
     (Call::Savepoint, Ok(Told::Number(3))),
 ];
 
-/// Writes where 31 pages of the other database are changed.
-const LAST_WRITES: [(Call, Answer); 2] = [
+/// Calls where 31 pages of the other database are changed, each saved by savepoint 1.
+const FULL: [(Call, Answer); 6] = [
     (Call::Write(1, 1, PAGE), Ok(Told::Done)),
     (Call::Write(1, 2, PAGE), Err(Refusal::ChangedFull)),
+    (Call::Savepoint, Ok(Told::Number(2))),
+    (Call::Write(0, 1, PAGE), Err(Refusal::SavedFull)),
+    (Call::Release(2), Ok(Told::Done)),
+    (Call::Write(0, 1, PAGE), Ok(Told::Done)),
 ];
 
 #[test]
-fn eight_savepoints_stand_and_a_transaction_changes_32_pages(rt: HostRuntime) {
+fn eight_savepoints_stand_and_a_transaction_changes_and_saves_32_pages(rt: HostRuntime) {
     let mut image = [0u8; IMAGE];
     let mut set = ready(&rt, direct(&rt, &mut image, 2), 2);
     let t = set.begin(7);
     check_calls(&rt, &mut set, &t, &SAVEPOINTS);
     let committed = set.commit(t);
     let t = set.begin(7);
+    let saving = set.savepoint(&t);
     // a page goes by number in a call
     for page in 1..32 {
         check_calls(
@@ -250,9 +255,9 @@ fn eight_savepoints_stand_and_a_transaction_changes_32_pages(rt: HostRuntime) {
             &[(Call::Write(0, page, PAGE), Ok(Told::Done))],
         );
     }
-    check_calls(&rt, &mut set, &t, &LAST_WRITES);
+    check_calls(&rt, &mut set, &t, &FULL);
     let ended = [set.write(&t, 0, 31, &[8; PAGE]), set.rollback(t)];
-    assert_eq!(rt; (committed, ended), (Ok(0), [Ok(()); 2]));
+    assert_eq!(rt; (committed, saving, ended), (Ok(0), Ok(1), [Ok(()); 2]));
 }
 
 #[test]
