@@ -19,6 +19,8 @@ mod numbers;
 #[cfg(test)]
 mod scenes;
 #[cfg(test)]
+mod script;
+#[cfg(test)]
 mod told;
 #[cfg(test)]
 mod trials;
