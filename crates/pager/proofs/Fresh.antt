@@ -2,7 +2,7 @@
 use Rattle.std.proofs.Common.{◌≡◌, ℕ, zero, suc, ◌+◌, ◌-◌, ◌*◌, ◌%◌, ◌<◌, ◌≤◌, false, ◌⊎◌, List, [], ◌++◌, length, get_or, take, drop, replicate, sym, refl, ap, ◌∙◌, ap₂, inl, inr, arith, length-drop, take-add}
 use mathlib.Core.Path.{fun_ext}
 use Rattle.std.proofs.lemmas.List.{take_all, take-append-le, get_or-replicate, get_or_past, length-replicate}
-use Rattle.std.proofs.lemmas.Bool.{cases_lt}
+use Rattle.std.proofs.lemmas.Bool.{cases_lt, both_ways}
 use Rattle.card.specs.Meaning.{Bytes}
 use Rattle.page_map.specs.declared.PageMap.{PageMap}
 use Rattle.page_map.specs.Words.{pages_of, digit}
@@ -48,9 +48,15 @@ maps_empty map none d p = by (cases_lt d 4)
     by (inr ge) = ap (λ (m : PageMap). pages_of m.words p) (get_or_past (replicate 4 map) d (record { words = [] }) (omega (arith, length-replicate 4 map))) ∙ no_words p
 
 module _ (maps : List PageMap) (empty : (d p : ℕ) → map_of maps d p ≡ false) where
-  pub sound_fresh : Sound maps [] [] 0
+  pub sound_fresh : (count : ℕ) (sizes : List ℕ) → Sound count (record { sizes = sizes; maps = maps; changed = []; saved = []; level_sizes = [] })
   unfolding look has_from
-  sound_fresh = record { link = λ d p lt. empty d p; all = sym (total_none (map_of maps) 4 empty); below = λ d p. refl }
+  sound_fresh count sizes = record {
+    link = λ d p lt. empty d p;
+    all = sym (total_none (map_of maps) 4 empty);
+    within = λ d p is. absurd (both_ways _ (empty d p) is);
+    was_within = λ k some le. absurd (omega (arith, some, le));
+    below = λ d p. refl;
+  }
 
   pub view_fresh :
       (files : ℕ → Bytes) (sizes : List ℕ) (level_sizes : List (List ℕ)) → Stored files sizes →

@@ -1,5 +1,5 @@
 -- What a write does to the fields, and that the fields stay sound.
-use Rattle.std.proofs.Common.{◌≡◌, ℕ, suc, ◌+◌, ◌<◌, ◌≤◌, max, Bool, true, false, cond, not, ◌&&◌, ◌||◌, eqb, ltb, leb, ◌⊎◌, List, [], ◌∷◌, ◌++◌, length, get_or, set, is_some, find, Some, None, Option, sym, refl, ap, ◌∙◌, ap₂, inl, inr, arith}
+use Rattle.std.proofs.Common.{◌≡◌, ℕ, suc, ◌+◌, ◌-◌, ◌<◌, ◌≤◌, max, Bool, true, false, cond, not, ◌&&◌, ◌||◌, eqb, ltb, leb, ◌⊎◌, List, [], ◌∷◌, ◌++◌, length, get_or, set, is_some, find, Some, None, Option, sym, refl, ap, ◌∙◌, ap₂, subst, inl, inr, arith}
 use Rattle.std.specs.Option.{option_map}
 use Rattle.std.proofs.lemmas.Option.{none-some}
 use mathlib.Core.Bool.{Bool-set}
@@ -22,10 +22,10 @@ use Rattle.page_map.specs.Sets.{PageSet, including, is_page, total}
 use Rattle.page_map.specs.Words.{pages_of}
 use Rattle.pager.specs.Changed.{look, Whole, is_row}
 use Rattle.pager.specs.Saved.{has, has_from, added}
-use Rattle.pager.specs.Sound.{Sound, map_of}
-use Rattle.pager.specs.View.{Fields, fields, page_allowed, to_save, write_refusal, was_of, saved_first}
+use Rattle.pager.specs.Sound.{Fields, Sound, map_of, sizes_at, changed_at, Within}
+use Rattle.pager.specs.View.{fields, page_allowed, to_save, write_refusal, was_of, saved_first}
 use Rattle.pager.proofs.Saves.{from_end}
-use Rattle.pager.proofs.Views.{Wrote}
+use Rattle.pager.proofs.Views.{Wrote, changed_kept}
 use Rattle.page_map.proofs.Totals.{total_with}
 
 -- the tests of a write that is not refused
@@ -123,10 +123,16 @@ none_above m d p = ∥∥₁_elim m.sound (Bool-set _ _) (λ s. s.below d p)
 
 -- a sound memory stays sound over a write
 pub sound_written :
-    (f g : Fields) (levels d p : ℕ) (bytes : Bytes) → Wrote f g levels d p bytes → d < 4 → is_page p ≡ true → length g.changed ≡ cond (is_some (look f.changed d p)) (length f.changed) (length f.changed + 1) →
-    Sound f.maps f.changed f.saved levels → Sound g.maps g.changed g.saved levels
-sound_written f g levels d p bytes wrote inside is grown sound = record { link = link; all = all; below = λ e q. below e q wrote.saved }
+    (count : ℕ) (f g : Fields) (d p : ℕ) (bytes : Bytes) → Wrote f g (length f.level_sizes) d p bytes → d < count → count ≤ 4 → is_page p ≡ true → p ≤ get_or f.sizes d 0 + 1 → length bytes ≡ 512 →
+    ((e q : ℕ) (b : Bytes) → look f.changed e q ≡ Some b → length b ≡ 512) → length g.changed ≡ cond (is_some (look f.changed d p)) (length f.changed) (length f.changed + 1) → Sound count f → Sound count g
+sound_written count f g d p bytes wrote there four is high whole long grown sound = record { link = link; all = all; within = within; was_within = was_within; below = λ e q. below e q wrote.saved }
   where
+    inside : d < 4
+    inside = omega (arith, there, four)
+
+    low : 1 ≤ p
+    low = leb-true 1 p (and_parts _ _ is).0
+
     link : (e q : ℕ) → e < 4 → map_of g.maps e q ≡ is_some (look g.changed e q)
     link e q lt = by (ℕ_discrete e d) (ℕ_discrete q p)
       where
@@ -148,14 +154,33 @@ sound_written f g levels d p bytes wrote inside is grown sound = record { link =
         grown ∙ ap (λ (b : Bool). cond b (length f.changed) (length f.changed + 1)) (sym (sound.link d p inside)) ∙ ap (λ (n : ℕ). cond (map_of f.maps d p) n (n + 1)) sound.all
         ∙ sym (total_with (map_of f.maps) (map_of g.maps) d p is wrote.map wrote.maps 4 inside)
 
+    within : Within count g.sizes (map_of g.maps)
+    within e q in-it = by (ℕ_discrete e d) (ℕ_discrete q p)
+      where
+        by : Dec (e ≡ d) → Dec (q ≡ p) → (e < count) × (1 ≤ q) × (q ≤ get_or g.sizes e 0)
+        by (no a) w =
+            let was = sound.within e q (sym (ap (λ (s : PageSet). s q) (wrote.maps e a)) ∙ in-it) in
+            (was.0, was.1, omega (arith, was.2, wrote.sizes e a))
+        by (yes a) (no b) =
+            let was = sound.within d q (sym (cond-false _ _ _ (ne_eqb q p b)) ∙ sym (wrote.map q) ∙ ap (λ (k : ℕ). map_of g.maps k q) (sym a) ∙ in-it) in
+            (omega (arith, a, there), was.1, subst (λ (k : ℕ). q ≤ get_or g.sizes k 0) (sym a) (omega (arith, was.2, wrote.size)))
+        by (yes a) (yes b) =
+            (omega (arith, a, there), omega (arith, b, low), subst (λ (k : ℕ). q ≤ get_or g.sizes k 0) (sym a) (omega (arith, b, wrote.size)))
+
+    was_within : (k : ℕ) → 1 ≤ k → k ≤ length g.level_sizes → Within count (sizes_at g k) (changed_at g k)
+    was_within k some le e q in-it =
+        let at : k ≤ length f.level_sizes = omega (arith, le, ap length wrote.level_sizes) in
+        let was = sound.was_within k some at e q (sym (changed_kept (λ _. []) f g (length f.level_sizes) d p bytes wrote low high whole long (sound.link d p inside) k some at e q) ∙ in-it) in
+        (was.0, was.1, subst (λ (l : List (List ℕ)). q ≤ get_or (get_or l (k - 1) []) e 0) (sym wrote.level_sizes) was.2)
+
     below :
         (e q : ℕ) →
-        (g.saved ≡ f.saved ++ (record { level = levels; database = d; page = p; was = was_of (look f.changed d p) (leb p (get_or f.sizes d 0)) } ∷ [])) ⊎ ((g.saved ≡ f.saved) × ((levels ≡ 0) ⊎ (has levels f.saved d p ≡ true))) →
-        has_from (suc levels) g.saved e q ≡ false
+        (g.saved ≡ f.saved ++ (record { level = length f.level_sizes; database = d; page = p; was = was_of (look f.changed d p) (leb p (get_or f.sizes d 0)) } ∷ [])) ⊎ ((g.saved ≡ f.saved) × ((length f.level_sizes ≡ 0) ⊎ (has (length f.level_sizes) f.saved d p ≡ true))) →
+        has_from (suc (length g.level_sizes)) g.saved e q ≡ false
     below e q (inl more) =
-        ap (λ (l : List SavedPage). has_from (suc levels) l e q) more ∙ from_end (suc levels) f.saved _ e q
-        ∙ ap₂ (λ (a b : Bool). a || b) (sound.below e q) (and_left _ _ (lt-leb (suc levels) levels (omega arith)))
-    below e q (inr same) = ap (λ (l : List SavedPage). has_from (suc levels) l e q) same.0 ∙ sound.below e q
+        ap₂ (λ (ls : List (List ℕ)) (l : List SavedPage). has_from (suc (length ls)) l e q) wrote.level_sizes more ∙ from_end (suc (length f.level_sizes)) f.saved _ e q
+        ∙ ap₂ (λ (a b : Bool). a || b) (sound.below e q) (and_left _ _ (lt-leb (suc (length f.level_sizes)) (length f.level_sizes) (omega arith)))
+    below e q (inr same) = ap₂ (λ (ls : List (List ℕ)) (l : List SavedPage). has_from (suc (length ls)) l e q) wrote.level_sizes same.0 ∙ sound.below e q
 
 -- a row that is added once is what the top savepoint has to save
 pub saved_added :

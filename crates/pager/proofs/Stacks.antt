@@ -1,16 +1,16 @@
 -- A savepoint pushed, and savepoints released, as steps of the machine that the memory is.
-use Rattle.std.proofs.Common.{◌≡◌, ℕ, zero, suc, ◌+◌, ◌-◌, ◌<◌, ◌≤◌, Bool, true, false, ◌||◌, List, [], ◌∷◌, ◌++◌, length, get_or, take, drop, None, Option, sym, refl, ap, ◌∙◌, arith}
+use Rattle.std.proofs.Common.{◌≡◌, ℕ, zero, suc, ◌+◌, ◌-◌, ◌<◌, ◌≤◌, Bool, true, false, ◌||◌, ◌⊎◌, List, [], ◌∷◌, ◌++◌, length, get_or, take, drop, None, Option, sym, refl, ap, ◌∙◌, subst, inl, inr, arith, length-append, length-take-le}
 use mathlib.Core.Path.{fun_ext}
 use Rattle.std.proofs.Math.Bool.{or-false}
 use Rattle.std.proofs.lemmas.List.{get_or_append_left, get_or-take}
 use Rattle.std.proofs.Math.Seq.{get_or-append_seam}
-use Rattle.std.proofs.lemmas.Bool.{or_parts}
+use Rattle.std.proofs.lemmas.Bool.{or_parts, cases_lt}
 use Rattle.card.specs.Meaning.{Bytes}
 use Rattle.pager.specs.declared.saved_page.Was.{Was}
-use Rattle.pager.specs.Saved.{has, has_from, first, gathered}
-use Rattle.pager.specs.Sound.{map_of}
+use Rattle.pager.specs.Saved.{has, has_from, first, was_changed, gathered}
+use Rattle.pager.specs.Sound.{Fields, Sound, map_of, changed_at, Within}
 use Rattle.pager.specs.Machine.{saved_by, pass_down, no_pages}
-use Rattle.pager.specs.View.{Fields, file_page, joined, was_page, was_changed, page_now, held_now, held_at, stack}
+use Rattle.pager.specs.View.{file_page, joined, was_page, page_now, held_now, held_at, stack}
 use Rattle.pager.proofs.Pages.{joined_same}
 use Rattle.pager.proofs.Passes.{gathered_below, gathered_top, gathered_first, gathered_above, from_first, from_split}
 
@@ -67,8 +67,38 @@ module _ (files : ℕ → Bytes) (f : Fields) where
         let rest = stack_old levels (omega arith) in
         λ i. record { held = h i; saved = s i } ∷ rest i
 
-    pub sound_pushed : (d p : ℕ) → has_from (suc (suc levels)) f.saved d p ≡ false
-    sound_pushed d p = (or_parts _ _ (sym (from_split (suc levels) f.saved d p) ∙ below d p)).1
+    none_two_above : (d p : ℕ) → has_from (suc (suc levels)) f.saved d p ≡ false
+    none_two_above d p = (or_parts _ _ (sym (from_split (suc levels) f.saved d p) ∙ below d p)).1
+
+    -- at the new savepoint just the pages are changed that are now
+    new_changed : (d p : ℕ) → changed_at f (suc levels) d p ≡ map_of f.maps d p
+    new_changed d p = ap (λ (o : Option Was). was_changed o (map_of f.maps d p)) (from_first (suc levels) f.saved d p (below d p))
+
+    pub sound_pushed : (count : ℕ) → Sound count f → Sound count with_sizes
+    unfolding with_sizes
+    sound_pushed count sound = record {
+      link = sound.link;
+      all = sound.all;
+      within = sound.within;
+      was_within = was_within;
+      below = subst (λ (n : ℕ). (d p : ℕ) → has_from (suc n) f.saved d p ≡ false) (sym long) none_two_above;
+    }
+      where
+        long : length (f.level_sizes ++ f.sizes ∷ []) ≡ suc levels
+        long = length-append f.level_sizes (f.sizes ∷ []) ∙ omega (arith, high)
+
+        was_within : (k : ℕ) → 1 ≤ k → k ≤ length (f.level_sizes ++ f.sizes ∷ []) → Within count (get_or (f.level_sizes ++ f.sizes ∷ []) (k - 1) []) (changed_at f k)
+        was_within k some le = by (cases_lt levels k)
+          where
+            by : (levels < k) ⊎ (k ≤ levels) → Within count (get_or (f.level_sizes ++ f.sizes ∷ []) (k - 1) []) (changed_at f k)
+            by (inr old) =
+                subst (λ (l : List ℕ). Within count l (changed_at f k)) (sym (get_or_append_left f.level_sizes (f.sizes ∷ []) [] (k - 1) (omega arith))) (sound.was_within k some (omega arith))
+            by (inl new) =
+                let here : k ≡ suc levels = omega (arith, new, le, long) in
+                let i : k - 1 ≡ length f.level_sizes = omega (arith, here, high) in
+                λ d p in-it.
+                let was = sound.within d p (sym (new_changed d p) ∙ ap (λ (n : ℕ). changed_at f n d p) (sym here) ∙ in-it) in
+                (was.0, was.1, subst (λ (l : List ℕ). p ≤ get_or l d 0) (sym (ap (λ (j : ℕ). get_or (f.level_sizes ++ f.sizes ∷ []) j []) i ∙ get_or-append_seam f.level_sizes f.sizes [] [])) was.2)
 
   -- the lowest k of a stack, and what those above them saved
   drop_stack : (j k l : ℕ) → l ≡ j + k → drop j (stack files f l) ≡ stack files f k
@@ -149,6 +179,25 @@ module _ (files : ℕ → Bytes) (f : Fields) where
         ∙ ap (pass_down (take (levels + 1 - s) (stack files f levels))) (sym (drop_stack (levels + 1 - s) (s - 1) levels (omega arith)))
         ∙ ap (λ (n : ℕ). pass_down (take (n + 1 - s) (stack files f levels)) (drop (n + 1 - s) (stack files f levels))) (sym (length_stack levels))
 
-    pub sound_released : (d p : ℕ) → has_from (suc (s - 1)) (gathered s [] f.saved) d p ≡ false
+    none_left : (d p : ℕ) → has_from (suc (s - 1)) (gathered s [] f.saved) d p ≡ false
     unfolding has_from
-    sound_released d p = gathered_above s d p (suc (s - 1)) [] f.saved (omega arith) refl
+    none_left d p = gathered_above s d p (suc (s - 1)) [] f.saved (omega arith) refl
+
+    pub sound_released : (count : ℕ) → length f.level_sizes ≡ levels → Sound count f → Sound count passed_fields
+    unfolding passed_fields
+    sound_released count all sound = record {
+      link = sound.link;
+      all = sound.all;
+      within = sound.within;
+      was_within = was_within;
+      below = subst (λ (n : ℕ). (d p : ℕ) → has_from (suc n) (gathered s [] f.saved) d p ≡ false) (sym long) none_left;
+    }
+      where
+        long : length (take (s - 1) f.level_sizes) ≡ s - 1
+        long = length-take-le (s - 1) f.level_sizes (omega (arith, all, high))
+
+        was_within : (k : ℕ) → 1 ≤ k → k ≤ length (take (s - 1) f.level_sizes) → Within count (get_or (take (s - 1) f.level_sizes) (k - 1) []) (changed_at passed_fields k)
+        was_within k some le d p in-it =
+            let lower : k ≤ s - 1 = omega (arith, le, long) in
+            let was = sound.was_within k some (omega (arith, lower, all, high)) d p (sym (ap (λ (o : Option Was). was_changed o (map_of f.maps d p)) (same_first k d p some lower)) ∙ in-it) in
+            (was.0, was.1, subst (λ (l : List ℕ). p ≤ get_or l d 0) (sym (get_or-take (s - 1) f.level_sizes (k - 1) [] (omega (arith, some, lower)))) was.2)

@@ -11,10 +11,10 @@ use Rattle.pager.specs.declared.saved_page.Was.{Was}
 use Rattle.pager.specs.declared.saved_page.Was.TheVariants.{Changed, Unchanged, Absent}
 use Rattle.page_map.specs.Sets.{PageSet, including}
 use Rattle.pager.specs.Changed.{look}
-use Rattle.pager.specs.Saved.{is_saved, has, first}
-use Rattle.pager.specs.Sound.{map_of}
+use Rattle.pager.specs.Saved.{is_saved, has, first, was_changed}
+use Rattle.pager.specs.Sound.{Fields, map_of, changed_at}
 use Rattle.pager.specs.Machine.{at, put, put_page, saving}
-use Rattle.pager.specs.View.{Fields, file_page, joined, or_file, was_page, was_changed, was_of, page_now, held_now, held_at, stack}
+use Rattle.pager.specs.View.{file_page, joined, or_file, was_page, was_of, page_now, held_now, held_at, stack}
 use Rattle.pager.proofs.Saves.{saves, has_end}
 use Rattle.pager.proofs.Pages.{length_file_page, joined_same, put_joined, paged}
 
@@ -221,6 +221,11 @@ module _
       by (yes a) (yes b) = subst (λ (x : ℕ). SameWas k x q) (sym a) (subst (λ (y : ℕ). SameWas k d y) (sym b) (was_here k some le))
       by (no a) w = was_far k e q (and_left _ _ (ne_eqb e d a))
       by (yes a) (no b) = was_far k e q (and_right _ _ (ne_eqb q p b))
+
+  -- the pages that were changed at each savepoint stay
+  pub changed_kept : (k : ℕ) → 0 < k → k ≤ levels → (e q : ℕ) → changed_at g k e q ≡ changed_at f k e q
+  unfolding SameWas
+  changed_kept k some le e q = (same_was k some le e q).1
 
   -- what each savepoint holds stays
   pub held_kept : (k : ℕ) → 0 < k → k ≤ levels → held_at files g k ≡ held_at files f k

@@ -1,9 +1,10 @@
 -- The store of saved pages, as a list in the order of saving: which savepoint saved which page, and
 -- what a page was when a savepoint was made.
-use Rattle.std.specs.Prelude.{ℕ, ◌-◌, min, Bool, cond, ◌&&◌, List, [], ◌∷◌, ◌++◌, Some, None, Option, ◌==◌, nat_le}
+use Rattle.std.specs.Prelude.{ℕ, ◌-◌, min, Bool, true, false, cond, ◌&&◌, List, [], ◌∷◌, ◌++◌, Some, None, Option, ◌==◌, nat_le}
 use Rattle.std.specs.List.{list_any}
 use Rattle.pager.specs.declared.saved_page.SavedPage.{SavedPage}
 use Rattle.pager.specs.declared.saved_page.Was.{Was}
+use Rattle.pager.specs.declared.saved_page.Was.TheVariants.{Changed, Unchanged, Absent}
 
 -- the row has this page of this database
 abbrev pub is_saved : ℕ → ℕ → SavedPage → Bool
@@ -21,6 +22,13 @@ has_from k rows d p = list_any (λ row. nat_le k row.level && is_saved d p row) 
 unfoldable pub first : ℕ → List SavedPage → ℕ → ℕ → Option Was
 first k [] d p = None
 first k (row ∷ rows) d p = cond (nat_le k row.level && is_saved d p row) (Some row.was) (first k rows d p)
+
+-- whether a page was changed, from what it was saved as, if it was, and whether it is changed now
+abbrev pub was_changed : Option Was → Bool → Bool
+was_changed None now-changed = now-changed
+was_changed (Some (Changed bytes)) now-changed = true
+was_changed (Some Unchanged) now-changed = false
+was_changed (Some Absent) now-changed = false
 
 -- a row as it is once savepoint s and those above are removed: it belongs to the one below
 abbrev pub passed : ℕ → SavedPage → SavedPage

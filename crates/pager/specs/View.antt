@@ -1,19 +1,17 @@
 -- The machine that a transaction's memory is, over what the files hold.
-use Rattle.std.specs.Prelude.{◌≡◌, ℕ, zero, suc, ◌+◌, ◌-◌, ◌*◌, ◌<◌, ◌≤◌, MatchResult, Bool, true, false, cond, not, ◌&&◌, List, [], ◌∷◌, ◌++◌, length, take, drop, replicate, Some, None, Option, Result, ◌==◌, ◌≢◌, nat_le, nat_lt, slice_index, slice_index_or}
+use Rattle.std.specs.Prelude.{◌≡◌, ℕ, zero, suc, ◌+◌, ◌-◌, ◌*◌, ◌<◌, ◌≤◌, MatchResult, Bool, true, false, cond, not, ◌&&◌, List, [], ◌∷◌, ◌++◌, length, take, drop, replicate, Some, None, Option, Result, ◌==◌, ◌≢◌, nat_le, nat_lt, slice_index}
 use Rattle.card.specs.Meaning.{Bytes}
 use Rattle.pager.specs.declared.memory.Memory.{Memory}
-use Rattle.pager.specs.declared.changed_page.ChangedPage.{ChangedPage}
 use Rattle.pager.specs.declared.saved_page.SavedPage.{SavedPage}
 use Rattle.pager.specs.declared.saved_page.Was.{Was}
 use Rattle.pager.specs.declared.saved_page.Was.TheVariants.{Changed, Unchanged, Absent}
 use Rattle.refusal.specs.declared.refusals.Refusal.{Refusal}
 use Rattle.refusal.specs.declared.refusals.Refusal.TheVariants.{NoDatabase, BufferLength, Page, ChangedFull, SavedFull}
-use Rattle.page_map.specs.declared.PageMap.{PageMap}
 use Rattle.page_map.specs.Sets.{total}
 use Rattle.refusal.specs.Results.{refused}
 use Rattle.pager.specs.Changed.{look}
 use Rattle.pager.specs.Saved.{has, first}
-use Rattle.pager.specs.Sound.{map_of}
+use Rattle.pager.specs.Sound.{Fields, map_of, sizes_at, changed_at}
 use Rattle.pager.specs.Machine.{Held, Savepoint, Machine}
 
 -- a page of a file; bytes past the file's end are zeros
@@ -38,21 +36,6 @@ was_page (Some (Changed bytes)) held file = bytes
 was_page (Some Unchanged) held file = file
 was_page (Some Absent) held file = file
 
--- and whether it was changed
-abbrev pub was_changed : Option Was → Bool → Bool
-was_changed None now-changed = now-changed
-was_changed (Some (Changed bytes)) now-changed = true
-was_changed (Some Unchanged) now-changed = false
-was_changed (Some Absent) now-changed = false
-
--- the fields, with the stores as lists
-pub record Fields : Type 0 where
-  pub sizes : List ℕ
-  pub maps : List PageMap
-  pub changed : List ChangedPage
-  pub saved : List SavedPage
-  pub level_sizes : List (List ℕ)
-
 module _ (files : ℕ → Bytes) (f : Fields) where
   -- what a page holds now
   abbrev pub page_now : ℕ → ℕ → Bytes
@@ -64,8 +47,8 @@ module _ (files : ℕ → Bytes) (f : Fields) where
   -- what savepoint k holds
   abbrev pub held_at : ℕ → Held
   held_at k = record {
-    current = λ d. joined (slice_index (slice_index_or f.level_sizes (k - 1) []) d) (λ p. was_page (first k f.saved d p) (page_now d p) (file_page (files d) p));
-    changed = λ d p. was_changed (first k f.saved d p) (map_of f.maps d p);
+    current = λ d. joined (slice_index (sizes_at f k) d) (λ p. was_page (first k f.saved d p) (page_now d p) (file_page (files d) p));
+    changed = changed_at f k;
   }
 
   -- the lowest k savepoints, the top one first

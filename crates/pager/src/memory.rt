@@ -30,5 +30,5 @@ pub struct Memory {
     ghost few: { count ≤ 4 },
     // the list's own bound, which a clause on its items does not show: the room for a savepoint rests on it
     ghost low: { length levels.items ≤ 8 },
-    ghost sound: { ∥ Sound maps changed.rows.items saved.rows.items (length levels.items) ∥₁ },
+    ghost sound: { ∥ Sound count (record { sizes = sizes; maps = maps; changed = changed.rows.items; saved = saved.rows.items; level_sizes = levels.items }) ∥₁ },
 }

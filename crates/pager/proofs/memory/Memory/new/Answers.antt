@@ -7,7 +7,7 @@ use Rattle.pager.proofs.memory.Memory.new.Goals as goal
 pub invariant_of-result : goal.invariant_of-result
 invariant_of-result c =
     let maps = replicate 4 c.new.result in
-    let fresh = sound_fresh maps (maps_empty c.new.result c.new.ensures) in
+    let fresh = sound_fresh maps (maps_empty c.new.result c.new.ensures) c.min.result c.args.sizes in
     record { few = omega arith; low = omega (arith, ap length c.new-4.ensures); sound = ∣ rw (c.new-2.ensures, c.new-3.ensures, c.new-4.ensures) fresh ∣₁ }
 
 pub returns : goal.returns

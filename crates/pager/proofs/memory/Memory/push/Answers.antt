@@ -1,8 +1,8 @@
-use Rattle.std.proofs.Common.{◌≡◌, ℕ, ◌+◌, suc, false, List, [], ◌∷◌, length, sym, refl, ap, ◌∙◌, subst, add-one, arith, length-append}
+use Rattle.std.proofs.Common.{◌≡◌, ℕ, ◌+◌, suc, List, [], ◌∷◌, length, sym, refl, ap, ◌∙◌, add-one, arith, length-append}
 use mathlib.Core.Logic.{∥∥₁_map}
 use Rattle.std.proofs.lemmas.Bool.{cond-false, eq-eqb, both_ways}
-use Rattle.pager.specs.Saved.{has_from}
-use Rattle.pager.specs.View.{Fields, fields, stack, held_now}
+use Rattle.pager.specs.Sound.{Fields}
+use Rattle.pager.specs.View.{fields, stack, held_now}
 use Rattle.pager.proofs.Keeps.{none_above}
 use Rattle.pager.proofs.Stack.{back_law}
 use Rattle.pager.proofs.Stacks.{with_sizes, stack_pushed, sound_pushed}
@@ -12,6 +12,7 @@ pub returns-then-is_full-clause-back : goal.returns-then-is_full-clause-back
 returns-then-is_full-clause-back c = back_law
 
 pub invariant_of-self : goal.invariant_of-self
+unfolding with_sizes
 invariant_of-self c =
     let m = c.args.self.now in
     let n = length m.levels.items in
@@ -20,12 +21,7 @@ invariant_of-self c =
     record {
       few = m.few;
       low = omega arith;
-      sound = ∥∥₁_map m.sound
-          (λ s. record {
-            link = s.link;
-            all = s.all;
-            below = subst (λ (k : ℕ). (d p : ℕ) → has_from (suc k) (fields m).saved d p ≡ false) (sym (long ∙ add-one n)) (sound_pushed (λ _. []) (fields m) n s.below refl);
-          });
+      sound = ∥∥₁_map m.sound (λ s. rw c.push.ensures (sound_pushed (λ _. []) (fields m) n (none_above m) refl m.count s));
     }
 
 pub returns : goal.returns

@@ -1,9 +1,9 @@
-use Rattle.std.proofs.Common.{◌≡◌, ℕ, suc, ◌-◌, leb, List, [], length, take, sym, refl, ap, ◌∙◌, arith, length-take-le}
+use Rattle.std.proofs.Common.{◌≡◌, ℕ, ◌-◌, leb, List, [], length, take, sym, refl, ap, ◌∙◌, arith, length-take-le}
 use mathlib.Core.Logic.{∥∥₁_map}
 use Rattle.std.proofs.lemmas.Bool.{cond-true, and_parts, leb-true}
 use Rattle.pager.specs.declared.saved_page.SavedPage.{SavedPage}
-use Rattle.pager.specs.Saved.{has_from}
-use Rattle.pager.specs.View.{Fields, fields, stack, held_now}
+use Rattle.pager.specs.Sound.{Fields}
+use Rattle.pager.specs.View.{fields, stack, held_now}
 use Rattle.pager.proofs.Keeps.{none_above}
 use Rattle.pager.proofs.Stack.{release_law}
 use Rattle.pager.proofs.Stacks.{passed_fields, stack_released, sound_released}
@@ -13,6 +13,7 @@ pub returns-then-not-stands-clause-law : goal.returns-then-not-stands-clause-law
 returns-then-not-stands-clause-law c = release_law
 
 pub invariant_of-self : goal.invariant_of-self
+unfolding passed_fields
 invariant_of-self c =
     let m = c.args.self.now in
     let s = c.args.s in
@@ -24,14 +25,7 @@ invariant_of-self c =
     record {
       few = m.few;
       low = omega (arith, m.low);
-      sound = ∥∥₁_map m.sound
-          (λ old. record {
-            link = old.link;
-            all = old.all;
-            below = λ d p.
-                ap (λ (k : ℕ). has_from (suc k) c.passed_down-self.result.rows.items d p) long
-                ∙ ap (λ (l : List SavedPage). has_from (suc (s - 1)) l d p) c.passed_down-self.ensures ∙ sound_released (λ _. []) (fields m) s n low high old.below d p;
-          });
+      sound = ∥∥₁_map m.sound (λ old. rw (c.passed_down-self.ensures, c.truncate.ensures) (sound_released (λ _. []) (fields m) s n low high (none_above m) m.count refl old));
     }
 
 pub returns : goal.returns
