@@ -4,6 +4,7 @@ use Rattle.std.specs.List.{AllByRecursion}
 use Rattle.card.specs.Meaning.{Meaning, Bytes, Name}
 use Rattle.pager.specs.declared.memory.Memory.{Memory}
 use Rattle.pager.specs.Sound.{map_of}
+use Rattle.pager.specs.View.{view}
 use Rattle.refusal.specs.declared.fault.SetFault.{SetFault}
 use Rattle.steps.specs.Tasks.{Task, Went}
 use Rattle.steps.proofs.Held.{Spares, spared_holds, all_append}
@@ -24,7 +25,7 @@ module _ {C : Type 0} (m : Meaning C) (file : ℕ → Name) (nonce : ℕ) (super
 
   module _ (mem : Memory) (base : List ℕ) (n : ℕ) (list : List ℕ) (c₀ : C) where
     abbrev task_list : (ℕ → Bytes) → ℕ → List Task
-    task_list stored d = journal_tasks file nonce super (change_of stored base mem d)
+    task_list stored d = journal_tasks file nonce super (change_of stored base (view stored mem) d)
 
     -- the databases hold what was stored
     abbrev pub StoredIn : C → (ℕ → Bytes) → Type 0

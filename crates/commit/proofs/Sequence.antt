@@ -10,6 +10,7 @@ use Rattle.names.specs.Files.{how_many, file_of}
 use Rattle.names.specs.declared.names.Names.{Names}
 use Rattle.names.proofs.Files.{database_is_file, super_is_file, files_apart}
 use Rattle.pager.specs.declared.memory.Memory.{Memory}
+use Rattle.pager.specs.View.{view}
 use Rattle.refusal.specs.declared.fault.SetFault.{SetFault}
 use Rattle.refusal.specs.declared.step.Step.TheVariants.{C4}
 use Rattle.sizes.specs.declared.Sizes.{Sizes}
@@ -31,10 +32,10 @@ module _ {C : Type 0} (m : Meaning C) (w : Work) (c : C) where
   stored d = contents (m.holds c (file d))
 
   abbrev change : ℕ → Change
-  change = change_of stored w.sizes.now.rows w.memory.now
+  change = change_of stored w.sizes.now.rows (view stored w.memory.now)
 
   abbrev chs : List Change
-  chs = changes stored w.sizes.now.rows w.memory.now (how_many w.names.now)
+  chs = changes stored w.sizes.now.rows (view stored w.memory.now) (how_many w.names.now)
 
   abbrev opening : List Task
   opening = cond (several w) (naming_tasks file (journals w)) []
@@ -85,11 +86,11 @@ module _ {C : Type 0} (m : Meaning C) (w : Work) (c : C) where
   abbrev pub Making : Result (Unit {0}) SetFault → C → C → Type 0
   Making r c₁ c₂ =
       (s : ℕ → Bytes) → ((k : ℕ) → k < how_many w.names.now → contents (m.holds c₁ (file k)) ≡ s k) →
-      Went m (for_each (λ d. journal_tasks file w.nonce (super_of file (several w)) (change_of s w.sizes.now.rows w.memory.now d)) (listed w)) c₁ r c₂
+      Went m (for_each (λ d. journal_tasks file w.nonce (super_of file (several w)) (change_of s w.sizes.now.rows (view s w.memory.now) d)) (listed w)) c₁ r c₂
 
   -- the pages were written
   abbrev pub Writing : Result (Unit {0}) SetFault → C → C → Type 0
-  Writing r c₂ c₃ = (s : ℕ → Bytes) (b : List ℕ) → Went m (for_each (λ d. change_tasks file (change_of s b w.memory.now d)) (listed w)) c₂ r c₃
+  Writing r c₂ c₃ = (s : ℕ → Bytes) (b : List ℕ) → Went m (for_each (λ d. change_tasks file (change_of s b (view s w.memory.now) d)) (listed w)) c₂ r c₃
 
   -- a database's name is not that of the super-journal
   not_super : (k : ℕ) → k < how_many w.names.now → file k ≡ file 8 → ⊥
@@ -140,5 +141,5 @@ module _ {C : Type 0} (m : Meaning C) (w : Work) (c : C) where
   pub as_given :
       (names : Names) (mem : Memory) (sizes : Sizes) (nonce : ℕ) (r : Result ℕ SetFault) (c' : C) →
       w.names.now ≡ names → w.memory.now ≡ mem → w.sizes.now ≡ sizes → w.nonce ≡ nonce → Ends r c' →
-      Committed m (file_of names) nonce (changes (λ d. contents (m.holds c (file_of names d))) sizes.rows mem (how_many names)) c r c'
+      Committed m (file_of names) nonce (changes (λ d. contents (m.holds c (file_of names d))) sizes.rows (view (λ d. contents (m.holds c (file_of names d))) mem) (how_many names)) c r c'
   as_given names mem sizes nonce r c' en em es e e' = rw (← en, ← em, ← es, ← e) e'

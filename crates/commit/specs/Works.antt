@@ -2,6 +2,7 @@
 use Rattle.std.specs.Prelude.{ℕ, ◌+◌, Bool, List, map, length, nat_le}
 use Rattle.card.specs.Meaning.{Name}
 use Rattle.names.specs.Files.{how_many, file_of}
+use Rattle.pager.specs.Sound.{map_of}
 use Rattle.journaling.specs.Changes.{changed_list}
 use Rattle.commit.specs.declared.work.Work.{Work}
 
@@ -11,7 +12,7 @@ files w = file_of w.names.now
 
 -- the databases that change, ascending
 abbrev pub listed : Work → List ℕ
-listed w = changed_list w.memory.now (how_many w.names.now)
+listed w = changed_list (map_of w.memory.now.maps) (how_many w.names.now)
 
 -- the names of their journals
 abbrev pub journals : Work → List Name

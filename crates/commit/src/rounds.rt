@@ -5,6 +5,7 @@
 // leaves at each turn.
 ghost use Rattle.std.specs.Prelude.{◌≡◌, ℕ, ◌<◌, List};
 ghost use Rattle.names.specs.Files.{how_many};
+ghost use Rattle.pager.specs.View.{view};
 ghost use Rattle.steps.specs.Tasks.{Went};
 ghost use Rattle.journaling.specs.Plan.{for_each, change_tasks, journal_tasks, super_of};
 ghost use Rattle.journaling.specs.Changes.{change_of, contents};
@@ -25,7 +26,7 @@ impl Work<'_> {
         card: &mut C,
         buffer: &mut [u8; JOURNAL_LIMIT],
     ) -> Result<(), SetFault>
-        ensures { (stored : ℕ → List ℕ) → ((k : ℕ) → k < how_many self.now.names.now → contents (C.Card.meaning.holds card.old (files self.now k)) ≡ stored k) → Went C.Card.meaning (for_each (λ d. journal_tasks (files self.now) self.now.nonce (super_of (files self.now) (several self.now)) (change_of stored self.now.sizes.now.rows self.now.memory.now d)) (listed self.now)) card.old result card.new }
+        ensures { (stored : ℕ → List ℕ) → ((k : ℕ) → k < how_many self.now.names.now → contents (C.Card.meaning.holds card.old (files self.now k)) ≡ stored k) → Went C.Card.meaning (for_each (λ d. journal_tasks (files self.now) self.now.nonce (super_of (files self.now) (several self.now)) (change_of stored self.now.sizes.now.rows (view stored self.now.memory.now) d)) (listed self.now)) card.old result card.new }
     {
         let journals = Journals {
             names: self.names,
@@ -42,7 +43,7 @@ impl Work<'_> {
 
     /// Writes the changed pages of each changed database.
     pub fn write_databases<C: Card>(&self, card: &mut C) -> Result<(), SetFault>
-        ensures { (stored : ℕ → List ℕ) (base : List ℕ) → Went C.Card.meaning (for_each (λ d. change_tasks (files self.now) (change_of stored base self.now.memory.now d)) (listed self.now)) card.old result card.new }
+        ensures { (stored : ℕ → List ℕ) (base : List ℕ) → Went C.Card.meaning (for_each (λ d. change_tasks (files self.now) (change_of stored base (view stored self.now.memory.now) d)) (listed self.now)) card.old result card.new }
     {
         for database in self.changed() {
             write_pages(card, self.names, self.memory, *database)?;

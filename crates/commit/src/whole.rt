@@ -1,6 +1,7 @@
 // A commit on a card, from the first step to the last.
 ghost use Rattle.std.specs.Prelude.{◌≡◌, ℕ};
 ghost use Rattle.names.specs.Files.{how_many, file_of};
+ghost use Rattle.pager.specs.View.{view};
 ghost use Rattle.journaling.specs.Changes.{changes, contents};
 ghost use Rattle.commit.specs.Ended.{Committed};
 
@@ -24,7 +25,7 @@ pub fn commit<C: Card>(
     nonce: u32,
     buffer: &mut [u8; JOURNAL_LIMIT],
 ) -> Result<usize, SetFault>
-    ensures { Committed C.Card.meaning (file_of names.now) nonce (changes (λ d. contents (C.Card.meaning.holds card.old (file_of names.now d))) sizes.now.rows memory.now (how_many names.now)) card.old result card.new }
+    ensures { Committed C.Card.meaning (file_of names.now) nonce (changes (λ d. contents (C.Card.meaning.holds card.old (file_of names.now d))) sizes.now.rows (view (λ d. contents (C.Card.meaning.holds card.old (file_of names.now d))) memory.now) (how_many names.now)) card.old result card.new }
 {
     let work = Work::new(names, memory, sizes, nonce);
     work.open_super(card, buffer)?;

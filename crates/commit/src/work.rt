@@ -2,6 +2,7 @@
 // the nonce of its journals, and the databases that have a changed page.
 ghost use Rattle.std.specs.Prelude.{◌≡◌, ◌<◌, ◌≤◌, length as count_of, EachIndex, slice_index};
 ghost use Rattle.names.specs.Files.{how_many};
+ghost use Rattle.pager.specs.Sound.{map_of};
 ghost use Rattle.journaling.specs.Changes.{changed_list};
 
 use few::Few;
@@ -20,13 +21,13 @@ pub struct Work<'a> {
     pub sizes: &'a Sizes,
     pub nonce: u32,
     changed: Few<usize, DATABASES>,
-    ghost listed: { changed.items ≡ changed_list memory.now (how_many names.now) },
+    ghost listed: { changed.items ≡ changed_list (map_of memory.now.maps) (how_many names.now) },
 }
 
 /// Those of the first databases that have a changed page, in order.
 fn changed_databases(memory: &Memory, count: usize) -> Few<usize, DATABASES>
     requires { count ≤ 4 }
-    ensures { result.items ≡ changed_list memory.now count }
+    ensures { result.items ≡ changed_list (map_of memory.now.maps) count }
 {
     let mut changed = Few::new();
     for database in (0..count).filter(|database| is_changed(memory, *database)) {

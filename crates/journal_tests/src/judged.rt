@@ -40,6 +40,7 @@ fn a_journal_is_sound_just_with_its_count_and_all_its_bytes(rt: HostRuntime) {
         (1, 500, 1, LONG, Verdict::Damaged { record: 0 }),
         (1, 516 + 312, 1, LONG, Verdict::Damaged { record: 1 }),
         (1, 1036, 1, LONG, Verdict::Damaged { record: 0 }),
+        (1, 0, 0, LONG, sound(4)),
     ] {
         assert_eq!(rt; put_count(&mut buffer, count), Ok(()));
         let mut harmed = buffer;

@@ -11,8 +11,9 @@ use pager::Memory;
 pub const RECORDS: usize = RECORD_LIMIT as usize;
 
 /// Whether a database has a changed page.
+#[tactic(auto, using(pager::proofs::Members::none_changed))]
 pub fn is_changed(memory: &Memory, database: usize) -> bool
-    ensures { result ≡ is_changed memory.now database }
+    ensures { result ≡ is_changed (map_of memory.now.maps) database }
 {
     memory.changed_count(database).is_ok_and(|n| n >= 1)
 }

@@ -1,5 +1,5 @@
 -- What a step of a walk leaves of the pages that are still to come.
-use Rattle.std.proofs.Common.{◌≡◌, ℕ, ◌+◌, ◌-◌, ◌<◌, ◌≤◌, List, [], ◌∷◌, ◌++◌, length, take, drop, get_or, Some, None, Option, Bor, refl, sym, ap, ◌∙◌, ap₂, arith}
+use Rattle.std.proofs.Common.{true, ◌≡◌, ℕ, ◌+◌, ◌-◌, ◌<◌, ◌≤◌, List, [], ◌∷◌, ◌++◌, length, take, drop, get_or, Some, None, Option, Bor, refl, sym, ap, ◌∙◌, ap₂, arith}
 use Rattle.std.specs.Iterator.{Yields, YieldsFirst}
 use Rattle.std.proofs.lemmas.Iterator.{YieldsList}
 use Rattle.std.proofs.lemmas.Iterator.Consumers.{YieldsList-from_first, YieldsList-so_far, YieldsList-turn, YieldsList-end}
@@ -38,8 +38,9 @@ module _ (walk : Pages) where
         of_map walk.after ∙ above_step (pages_of map.now.words) walk.after p next high
         ∙ ap (λ (l : List ℕ). p ∷ l) (sym (of_map p))
 
--- a page of a walk over all pages of a set: those walked before it, those that follow, and its bounds
+-- a page of a walk over all pages of a set: it is one of them; those walked before it, those that follow, and its bounds
 pub record Turn (s : PageSet) (walked : List ℕ) (p : ℕ) : Type 0 where
+  pub member : s p ≡ true
   pub rest : List ℕ
   pub parts : above s 0 4096 ≡ walked ++ p ∷ rest
   pub low : 1 ≤ p
@@ -59,6 +60,7 @@ module _ (s : PageSet) (start walk : Pages) (walked : List ℕ) (whole : left st
 
   pub walked_turn : (p : ℕ) → r ≡ Some p → Turn s walked p
   walked_turn p some = record {
+    member = ap s (sym same) ∙ at.member;
     rest = drop (n + 1) all;
     parts = sym (take-append-drop n all) ∙ ap₂ (λ (x y : List ℕ). x ++ y) (sym before) (drop_more all n p turn.0 ∙ ap (λ (q : ℕ). q ∷ drop (n + 1) all) (sym turn.1));
     low = omega (arith, at.low, same);

@@ -2,6 +2,7 @@
 ghost use Rattle.std.specs.Prelude.{◌≡◌, ℕ, List, [], ◌∷◌, ◌++◌};
 ghost use Rattle.card.specs.Calls.Op.{sync as syncs};
 ghost use Rattle.names.specs.Files.{file_of};
+ghost use Rattle.pager.specs.View.{view};
 ghost use Rattle.refusal.specs.declared.step.Step.TheVariants.{C3};
 ghost use Rattle.steps.specs.Tasks.{Went};
 ghost use Rattle.journaling.specs.Plan.{write_tasks, call};
@@ -21,7 +22,7 @@ pub fn write_pages<C: Card>(
     memory: &Memory,
     database: usize,
 ) -> Result<(), SetFault>
-    ensures { (stored : ℕ → List ℕ) → Went C.Card.meaning (write_tasks (file_of names.now database) database (pages_held stored memory.now database) ++ (call (file_of names.now) C3 database syncs ∷ [])) card.old result card.new }
+    ensures { (stored : ℕ → List ℕ) → Went C.Card.meaning (write_tasks (file_of names.now database) database (pages_held (view stored memory.now) database) ++ (call (file_of names.now) C3 database syncs ∷ [])) card.old result card.new }
 {
     let file = names.file(database);
     let site = Site::new(Step::C3, database);

@@ -10,4 +10,5 @@ mod Fresh
 pub mod Counted
 pub mod Sizes
 mod Walks
+pub mod Members
 mod Cases

@@ -4,6 +4,7 @@ use Rattle.card.specs.Meaning.{Meaning}
 use Rattle.names.specs.Files.{how_many}
 use Rattle.refusal.specs.declared.fault.SetFault.{SetFault}
 use Rattle.refusal.specs.declared.refusals.Refusal.{Refusal}
+use Rattle.pager.specs.View.{view}
 use Rattle.journaling.specs.Changes.{changes, contents}
 use Rattle.journaling.specs.Plan.{Change}
 use Rattle.commit.specs.Ended.{Committed}
@@ -18,11 +19,11 @@ use Rattle.store.proofs.Filed.{same_changes}
 module _ {C : Type 0} (m : Meaning C) where
   of_set :
       (s s' : Set C) (nonce : ℕ) (card' : C) (answer : Result ℕ SetFault) (r : Result ℕ Refusal) → nonce ≡ nonce_of s.mode →
-      Committed m (file_of s) nonce (changes (λ d. contents (m.holds s.card (file_of s d))) s.stored.rows s.memory (how_many s.names)) s.card answer card' →
+      Committed m (file_of s) nonce (changes (λ d. contents (m.holds s.card (file_of s d))) s.stored.rows (view (λ d. contents (m.holds s.card (file_of s d))) s.memory) (how_many s.names)) s.card answer card' →
       r ≡ told answer → Concluded answer s.memory s.stored s'.mode s'.memory s'.stored → s'.card ≡ card' → s'.names ≡ s.names → s'.begun ≡ s.begun →
       CarriedOut m s r s'
   of_set s s' nonce card' answer r nonce_is done is ended card names begun =
-      let all = changes (files_of m s) s.stored.rows s.memory (how_many s.names) in
+      let all = changes (files_of m s) s.stored.rows (view (files_of m s) s.memory) (how_many s.names) in
       record {
         answer = answer;
         committed =
@@ -40,7 +41,7 @@ module _ {C : Type 0} (m : Meaning C) where
       (s at s' : Set C) (nonce : ℕ) (card' : C) (answer : Result ℕ SetFault) (r : Result ℕ Refusal) (asked number : ℕ) → None ≡ says s.mode s.begun (Use asked) → asked ≡ number →
       at ≡ s →
       nonce ≡ nonce_of s.mode →
-      Committed m (file_of at) nonce (changes (λ d. contents (m.holds at.card (file_of at d))) at.stored.rows at.memory (how_many at.names)) at.card answer card' →
+      Committed m (file_of at) nonce (changes (λ d. contents (m.holds at.card (file_of at d))) at.stored.rows (view (λ d. contents (m.holds at.card (file_of at d))) at.memory) (how_many at.names)) at.card answer card' →
       r ≡ told answer → Concluded answer at.memory at.stored s'.mode s'.memory s'.stored → s'.card ≡ card' → s'.names ≡ at.names → s'.begun ≡ at.begun →
       Commits m s r s' (says s.mode s.begun (Use number))
   carried s at s' nonce card' answer r asked number passes taken same nonce_is done is ended card names begun =

@@ -15,7 +15,7 @@ use Rattle.refusal.specs.declared.refusals.Refusal.{Refusal}
 use Rattle.pager.specs.declared.memory.Memory.{Memory}
 use Rattle.pager.specs.Changed.{look}
 use Rattle.pager.specs.View.{joined, file_page, or_file, fields, page_now, view}
-use Rattle.pager.proofs.Pages.{length_joined}
+use Rattle.pager.proofs.Members.{page_of}
 use Rattle.pager.proofs.Sizes.{page_long}
 use Rattle.steps.specs.Tasks.{task, Went, ToldBytes}
 use Rattle.store.specs.declared.set.Set.{Set}
@@ -25,20 +25,6 @@ use Rattle.store.proofs.Filed.{of_database}
 use Rattle.sizes.specs.Fitting.{Fitting}
 use Rattle.journaling.specs.Changes.{contents}
 use Rattle.store.specs.Reads.{page_refusal, read_refusal, place, at_reading, file_of, files_of, FromCard, Reads, Shows}
-
--- the page p of pages one after the other
-page_of : (n : ℕ) (f : ℕ → Bytes) → ((p : ℕ) → length (f p) ≡ 512) → (p : ℕ) → 1 ≤ p → p ≤ n → part (joined n f) (place p) 512 ≡ f p
-unfolding joined
-page_of zero f long p low high = absurd (omega arith)
-page_of (suc n) f long p low high = by (ℕ_discrete p (suc n)) (page_of n f long p low)
-  where
-    by : Dec (p ≡ suc n) → (p ≤ n → part (joined n f) (place p) 512 ≡ f p) → part (joined n f ++ f (suc n)) (place p) 512 ≡ f p
-    by (yes e) earlier =
-        ap (take 512) (drop_at (joined n f) (f (suc n)) (place p) (length_joined n f long ∙ omega arith)) ∙ take_all 512 (f (suc n)) (omega (arith, long (suc n))) ∙ ap f (sym e)
-    by (no ne) earlier =
-        ap (take 512) (drop-append-le (place p) (joined n f) (f (suc n)) (omega (arith, length_joined n f long)))
-        ∙ take-append-le 512 (drop (place p) (joined n f)) (f (suc n)) (simp length-drop (omega (arith, length_joined n f long)))
-        ∙ earlier (omega arith)
 
 -- what was read of a file is its page
 read_page : (f : Option Bytes) (n : Name) (p : ℕ) → tested (read (place p) 512) n f ≡ None → part_of f (place p) 512 ≡ file_page (contents f) p

@@ -6,6 +6,7 @@ use Rattle.refusal.specs.declared.fault.SetFault.{SetFault}
 use Rattle.refusal.specs.declared.refusals.Refusal.{Refusal}
 use Rattle.sizes.specs.declared.Sizes.{Sizes}
 use Rattle.pager.specs.declared.memory.Memory.{Memory}
+use Rattle.pager.specs.View.{view}
 use Rattle.journaling.specs.Changes.{changes}
 use Rattle.commit.specs.Ended.{Committed}
 use Rattle.store.specs.declared.set.Set.{Set}
@@ -27,10 +28,10 @@ Concluded (Ok left) memory stored mode' memory' stored' = (mode' ≡ cond (left 
 Concluded (Err f) memory stored mode' memory' stored' = (mode' ≡ Cold) × (stored' ≡ stored) × Fresh memory stored.rows memory'
 
 module _ {C : Type 0} (m : Meaning C) (s : Set C) (r : Result ℕ Refusal) (s' : Set C) where
-  -- the plan of the changed pages was carried out on the card, and its answer is told
+  -- the plan that the machine gives was carried out on the card, and its answer is told
   pub record CarriedOut : Type 0 where
     pub answer : Result ℕ SetFault
-    pub committed : Committed m (file_of s) (nonce_of s.mode) (changes (files_of m s) s.stored.rows s.memory (how_many s.names)) s.card answer s'.card
+    pub committed : Committed m (file_of s) (nonce_of s.mode) (changes (files_of m s) s.stored.rows (view (files_of m s) s.memory) (how_many s.names)) s.card answer s'.card
     pub told : r ≡ told answer
     pub concluded : Concluded answer s.memory s.stored s'.mode s'.memory s'.stored
     pub names : s'.names ≡ s.names

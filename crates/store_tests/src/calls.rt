@@ -92,6 +92,7 @@ fn a_token_of_an_earlier_transaction_is_stale(rt: HostRuntime) {
     assert!(rt; set.recover().is_ok());
     // a read asks for no transaction
     check_calls(&rt, &mut set, &stale, &READS);
+    Page::new(1, 2, Version::Old).check(&rt, &mut set);
     let running = set.begin(7);
     check_calls(&rt, &mut set, &stale, &VOID);
     let numbers = [stale.number(), running.number()];
@@ -160,14 +161,16 @@ const SAVEPOINTS: [(Call, Answer); 15] = [
     (Call::Savepoint, Ok(Told::Number(3))),
 ];
 
-/// Calls where 31 pages of the other database are changed, each saved by savepoint 1.
-const FULL: [(Call, Answer); 6] = [
+/// Calls where 31 pages of the other database are changed, each saved by savepoint 1; at last none stands.
+const FULL: [(Call, Answer); 8] = [
     (Call::Write(1, 1, PAGE), Ok(Told::Done)),
     (Call::Write(1, 2, PAGE), Err(Refusal::ChangedFull)),
     (Call::Savepoint, Ok(Told::Number(2))),
     (Call::Write(0, 1, PAGE), Err(Refusal::SavedFull)),
     (Call::Release(2), Ok(Told::Done)),
     (Call::Write(0, 1, PAGE), Ok(Told::Done)),
+    (Call::Release(1), Ok(Told::Done)),
+    (Call::Write(1, 2, PAGE), Err(Refusal::ChangedFull)),
 ];
 
 #[test]

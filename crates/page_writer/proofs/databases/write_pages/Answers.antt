@@ -30,11 +30,12 @@ page_place-requires-clause-small g c = (turn g ((goal.at.page_place-requires-cla
 
 pub loop-page-preserved : goal.loop-page-preserved
 loop-page-preserved g c =
-    let is = sym c.get.ensures.is ∙ ap (option_map (λ (b : Bor Bytes). b.now)) c.unwrap-bytes.ensures in (
+    let is = sym c.get.ensures.is ∙ ap (option_map (λ (b : Bor Bytes). b.now)) c.unwrap-bytes.ensures in
+    let at = turn g ((goal.at.loop-page-preserved g c).In-Some) in (
       tt,
       (
         tt,
-        writing_more _ _ c.args.memory.now _ _ c.loop-page.yielded _ c.loop-page.invariant.1.1 _ c.in-Some.page _ is
+        writing_more _ _ c.args.memory.now _ _ c.loop-page.yielded _ c.loop-page.invariant.1.1 _ c.in-Some.page _ at.member is
             (went_as _ _ _ _ _ _ _ _ _ _ c.new-site.ensures (c.bytes.ensures ∙ c.file-file.ensures) (ap (λ (k : ℕ). write k c.unwrap-bytes.result.now) c.page_place.ensures) c.in_ok-write.ensures),
       ),
     )
@@ -46,7 +47,7 @@ returns-in_err-write g c =
     let at = turn g ((goal.at.returns-in_err-write g c).In-Some) in
     λ stored.
     rw (p.1, p.2)
-    (writing_stopped _ _ c.args.memory.now _ _ c.loop-page.yielded _ c.loop-page.invariant.1.1 _ c.in-Some.page _ is _ _ at.rest stored at.parts
+    (writing_stopped _ _ c.args.memory.now _ _ c.loop-page.yielded _ c.loop-page.invariant.1.1 _ c.in-Some.page _ at.member is _ _ at.rest stored at.parts
     (went_as _ _ _ _ _ _ _ _ _ _ c.new-site.ensures (c.bytes.ensures ∙ c.file-file.ensures) (ap (λ (k : ℕ). write k c.unwrap-bytes.result.now) c.page_place.ensures) c.in_err-write.ensures))
 
 pub returns : goal.returns
