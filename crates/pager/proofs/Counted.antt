@@ -1,15 +1,20 @@
--- What the invariant of a memory tells a caller of the changed pages: a database has at most 32.
+-- What the invariant of a memory tells a caller: a database has at most 32 changed pages, and the store of
+-- saved pages has as many rows as the savepoints have saved pages.
 use Rattle.std.proofs.Common.{◌≡◌, ℕ, suc, ◌+◌, ◌<◌, ◌≤◌, true, false, cond, eqb, Bool, ◌⊎◌, List, [], ◌∷◌, length, is_some, find, Some, sym, refl, ap, ◌∙◌, ap₂, inl, inr, arith}
 use Rattle.std.specs.Option.{option_map}
 use native.Mathlib.Decide.{ℕ_discrete, dec_lt}
 use Rattle.std.proofs.lemmas.Bool.{cases_Bool, cond-true, cond-false, eq-eqb, ne_eqb, and_left, and_right, both_ways}
+use Rattle.card.specs.Meaning.{Bytes}
 use Rattle.page_map.specs.Sets.{PageSet, is_page, without, including, counted, total}
 use Rattle.page_map.proofs.Totals.{total_with, total_free, total_part}
 use Rattle.pager.specs.declared.memory.Memory.{Memory}
 use Rattle.pager.specs.declared.changed_page.ChangedPage.{ChangedPage}
 use Rattle.pager.specs.Changed.{look, is_row}
 use Rattle.pager.specs.Sound.{map_of}
-use Rattle.pager.proofs.Keeps.{in_all}
+use Rattle.pager.specs.Machine.{saved_in_all}
+use Rattle.pager.specs.View.{fields, view}
+use Rattle.pager.proofs.Keeps.{in_all, saved_in}
+use Rattle.pager.proofs.SavedRows.{stack_total}
 
 -- each page of the sets that a database can have stands in the rows
 abbrev Covers : List ChangedPage → (ℕ → PageSet) → Type 0
@@ -100,9 +105,13 @@ bound (row ∷ rows) f covers = by (fewer row rows f covers) (bound rows)
     by (inl same) earlier = omega (arith, earlier f same)
     by (inr (g, (less, one))) earlier = omega (arith, earlier g less)
 
--- the store has as many rows as pages are changed
+-- the store of changed pages has as many rows as pages are changed
 pub changed_all : (m : Memory) → length m.changed.rows.items ≡ total (map_of m.maps) 4
 changed_all m = in_all m
+
+-- the store of saved pages has as many rows as the savepoints of the machine have saved pages
+pub saved_all : (m : Memory) (files : ℕ → Bytes) → length m.saved.rows.items ≡ saved_in_all (view files m).savepoints
+saved_all m files = saved_in m ∙ sym (stack_total files (fields m) (length m.levels.items))
 
 module _ (m : Memory) (d : ℕ) (lt : d < 4) where
   -- a database has at most 32 changed pages

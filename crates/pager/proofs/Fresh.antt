@@ -3,17 +3,19 @@ use Rattle.std.proofs.Common.{◌≡◌, ℕ, zero, suc, ◌+◌, ◌-◌, ◌*�
 use mathlib.Core.Path.{fun_ext}
 use Rattle.std.proofs.lemmas.List.{take_all, take-append-le, get_or-replicate, get_or_past, length-replicate}
 use Rattle.std.proofs.lemmas.Bool.{cases_lt, both_ways}
+use Rattle.std.proofs.lemmas.List.Elements.{All-nil}
 use Rattle.card.specs.Meaning.{Bytes}
 use Rattle.page_map.specs.declared.PageMap.{PageMap}
 use Rattle.page_map.specs.Words.{pages_of, digit}
 use Rattle.pager.specs.Changed.{look}
-use Rattle.pager.specs.Saved.{has_from}
+use Rattle.pager.specs.Saved.{has_from, Placed}
 use Rattle.pager.specs.Sound.{Sound, map_of}
 use Rattle.pager.specs.Machine.{no_pages}
 use Rattle.pager.specs.View.{file_page, joined, held_now, Stored}
 use Rattle.page_map.proofs.Digits.{bit_zero}
 use Rattle.page_map.proofs.Totals.{total_none}
 use Rattle.page_map.proofs.Members.{page_none, page_out}
+use Rattle.pager.proofs.SavedRows.{total_empty}
 
 -- a file is its pages, one after the other
 file_joined : (file : Bytes) (n : ℕ) → n * 512 ≤ length file → joined n (file_page file) ≡ take (n * 512) file
@@ -56,6 +58,8 @@ module _ (maps : List PageMap) (empty : (d p : ℕ) → map_of maps d p ≡ fals
     within = λ d p is. absurd (both_ways _ (empty d p) is);
     was_within = λ k some le. absurd (omega (arith, some, le));
     below = λ d p. refl;
+    placed = All-nil (Placed count);
+    saved_all = sym (total_empty 0);
   }
 
   pub view_fresh :

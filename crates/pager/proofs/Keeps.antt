@@ -1,5 +1,5 @@
 -- What a write does to the fields, and that the fields stay sound.
-use Rattle.std.proofs.Common.{◌≡◌, ℕ, suc, ◌+◌, ◌-◌, ◌<◌, ◌≤◌, max, Bool, true, false, cond, not, ◌&&◌, ◌||◌, eqb, ltb, leb, ◌⊎◌, List, [], ◌∷◌, ◌++◌, length, get_or, set, is_some, find, Some, None, Option, sym, refl, ap, ◌∙◌, ap₂, subst, inl, inr, arith}
+use Rattle.std.proofs.Common.{◌≡◌, ℕ, suc, ◌+◌, ◌-◌, ◌<◌, ◌≤◌, max, Bool, true, false, cond, not, ◌&&◌, ◌||◌, eqb, ltb, leb, ◌⊎◌, List, [], ◌∷◌, ◌++◌, All, length, get_or, set, is_some, find, Some, None, Option, sym, refl, ap, ◌∙◌, ap₂, subst, inl, inr, arith}
 use Rattle.std.specs.Option.{option_map}
 use Rattle.std.proofs.lemmas.Option.{none-some}
 use mathlib.Core.Bool.{Bool-set}
@@ -21,10 +21,11 @@ use Rattle.refusal.specs.declared.refusals.Refusal.TheVariants.{NoDatabase, Buff
 use Rattle.page_map.specs.Sets.{PageSet, including, is_page, total}
 use Rattle.page_map.specs.Words.{pages_of}
 use Rattle.pager.specs.Changed.{look, Whole, is_row}
-use Rattle.pager.specs.Saved.{has, has_from, added}
+use Rattle.pager.specs.Saved.{has, has_from, saved_total, Placed, added}
 use Rattle.pager.specs.Sound.{Fields, Sound, map_of, sizes_at, changed_at, Within}
 use Rattle.pager.specs.View.{fields, page_allowed, to_save, write_refusal, was_of, saved_first}
 use Rattle.pager.proofs.Saves.{from_end}
+use Rattle.pager.proofs.SavedRows.{added_all, added_placed}
 use Rattle.pager.proofs.Views.{Wrote, changed_kept}
 use Rattle.page_map.proofs.Totals.{total_with}
 
@@ -121,17 +122,32 @@ in_all m = ∥∥₁_elim m.sound (ℕ_set _ _) (λ s. s.all)
 pub none_above : (m : Memory) (d p : ℕ) → has_from (suc (length m.levels.items)) (fields m).saved d p ≡ false
 none_above m d p = ∥∥₁_elim m.sound (Bool-set _ _) (λ s. s.below d p)
 
+pub saved_in : (m : Memory) → length m.saved.rows.items ≡ saved_total (length m.levels.items) m.saved.rows.items
+saved_in m = ∥∥₁_elim m.sound (ℕ_set _ _) (λ s. s.saved_all)
+
 -- a sound memory stays sound over a write
 pub sound_written :
     (count : ℕ) (f g : Fields) (d p : ℕ) (bytes : Bytes) → Wrote f g (length f.level_sizes) d p bytes → d < count → count ≤ 4 → is_page p ≡ true → p ≤ get_or f.sizes d 0 + 1 → length bytes ≡ 512 →
-    ((e q : ℕ) (b : Bytes) → look f.changed e q ≡ Some b → length b ≡ 512) → length g.changed ≡ cond (is_some (look f.changed d p)) (length f.changed) (length f.changed + 1) → Sound count f → Sound count g
-sound_written count f g d p bytes wrote there four is high whole long grown sound = record { link = link; all = all; within = within; was_within = was_within; below = λ e q. below e q wrote.saved }
+    ((e q : ℕ) (b : Bytes) → look f.changed e q ≡ Some b → length b ≡ 512) → length g.changed ≡ cond (is_some (look f.changed d p)) (length f.changed) (length f.changed + 1) →
+    (level : ℕ) (was : Was) → level ≡ length f.level_sizes → g.saved ≡ added f.saved (record { level = level; database = d; page = p; was = was }) → Sound count f → Sound count g
+sound_written count f g d p bytes wrote there four is high whole long grown level was top once sound = record {
+  link = link;
+  all = all;
+  within = within;
+  was_within = was_within;
+  below = λ e q. below e q wrote.saved;
+  placed = subst (All (Placed count)) (sym once) (added_placed count f.saved row sound.placed (there, is));
+  saved_all = ap length once ∙ added_all (length f.level_sizes) f.saved row (omega arith) (inside, is) sound.saved_all ∙ sym (ap₂ saved_total (ap length wrote.level_sizes) once);
+}
   where
     inside : d < 4
     inside = omega (arith, there, four)
 
     low : 1 ≤ p
     low = leb-true 1 p (and_parts _ _ is).0
+
+    row : SavedPage
+    row = record { level = level; database = d; page = p; was = was }
 
     link : (e q : ℕ) → e < 4 → map_of g.maps e q ≡ is_some (look g.changed e q)
     link e q lt = by (ℕ_discrete e d) (ℕ_discrete q p)

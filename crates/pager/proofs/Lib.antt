@@ -3,6 +3,7 @@ mod Looks
 mod Saves
 pub mod Pages
 mod Views
+mod SavedRows
 mod Keeps
 mod Passes
 mod Stacks

@@ -1,17 +1,19 @@
 -- A savepoint pushed, and savepoints released, as steps of the machine that the memory is.
-use Rattle.std.proofs.Common.{◌≡◌, ℕ, zero, suc, ◌+◌, ◌-◌, ◌<◌, ◌≤◌, Bool, true, false, ◌||◌, ◌⊎◌, List, [], ◌∷◌, ◌++◌, length, get_or, take, drop, None, Option, sym, refl, ap, ◌∙◌, subst, inl, inr, arith, length-append, length-take-le}
+use Rattle.std.proofs.Common.{◌≡◌, ℕ, zero, suc, ◌+◌, ◌-◌, ◌<◌, ◌≤◌, Bool, true, false, ◌||◌, ◌⊎◌, List, [], ◌∷◌, ◌++◌, All, length, get_or, take, drop, None, Option, sym, refl, ap, ◌∙◌, subst, inl, inr, arith, length-append, length-take-le}
 use mathlib.Core.Path.{fun_ext}
 use Rattle.std.proofs.Math.Bool.{or-false}
 use Rattle.std.proofs.lemmas.List.{get_or_append_left, get_or-take}
 use Rattle.std.proofs.Math.Seq.{get_or-append_seam}
 use Rattle.std.proofs.lemmas.Bool.{or_parts, cases_lt}
+use Rattle.std.proofs.lemmas.List.Elements.{All-nil}
 use Rattle.card.specs.Meaning.{Bytes}
 use Rattle.pager.specs.declared.saved_page.Was.{Was}
-use Rattle.pager.specs.Saved.{has, has_from, first, was_changed, gathered}
+use Rattle.pager.specs.Saved.{has, has_from, saved_total, Placed, first, was_changed, gathered}
 use Rattle.pager.specs.Sound.{Fields, Sound, map_of, changed_at, Within}
 use Rattle.pager.specs.Machine.{saved_by, pass_down, no_pages}
 use Rattle.pager.specs.View.{file_page, joined, was_page, page_now, held_now, held_at, stack}
 use Rattle.pager.proofs.Pages.{joined_same}
+use Rattle.pager.proofs.SavedRows.{total_next, total_empty, gathered_all, gathered_placed}
 use Rattle.pager.proofs.Passes.{gathered_below, gathered_top, gathered_first, gathered_above, from_first, from_split}
 
 module _ (files : ℕ → Bytes) (f : Fields) where
@@ -82,6 +84,8 @@ module _ (files : ℕ → Bytes) (f : Fields) where
       within = sound.within;
       was_within = was_within;
       below = subst (λ (n : ℕ). (d p : ℕ) → has_from (suc n) f.saved d p ≡ false) (sym long) none_two_above;
+      placed = sound.placed;
+      saved_all = sound.saved_all ∙ ap (λ (n : ℕ). saved_total n f.saved) high ∙ sym (ap (λ (n : ℕ). saved_total n f.saved) long ∙ total_next levels f.saved (λ d p i. none_saved i d p));
     }
       where
         long : length (f.level_sizes ++ f.sizes ∷ []) ≡ suc levels
@@ -183,18 +187,23 @@ module _ (files : ℕ → Bytes) (f : Fields) where
     unfolding has_from
     none_left d p = gathered_above s d p (suc (s - 1)) [] f.saved (omega arith) refl
 
-    pub sound_released : (count : ℕ) → length f.level_sizes ≡ levels → Sound count f → Sound count passed_fields
+    pub sound_released : (count : ℕ) → count ≤ 4 → length f.level_sizes ≡ levels → Sound count f → Sound count passed_fields
     unfolding passed_fields
-    sound_released count all sound = record {
+    sound_released count four all sound = record {
       link = sound.link;
       all = sound.all;
       within = sound.within;
       was_within = was_within;
       below = subst (λ (n : ℕ). (d p : ℕ) → has_from (suc n) (gathered s [] f.saved) d p ≡ false) (sym long) none_left;
+      placed = gathered_placed count s [] f.saved (All-nil (Placed count)) sound.placed;
+      saved_all = gathered_all s [] f.saved placed (sym (total_empty (s - 1))) ∙ ap (λ (n : ℕ). saved_total n (gathered s [] f.saved)) (sym long);
     }
       where
         long : length (take (s - 1) f.level_sizes) ≡ s - 1
         long = length-take-le (s - 1) f.level_sizes (omega (arith, all, high))
+
+        placed : All (Placed 4) f.saved
+        placed i row lt = let here = sound.placed i row lt in (omega (arith, here.0, four), here.1)
 
         was_within : (k : ℕ) → 1 ≤ k → k ≤ length (take (s - 1) f.level_sizes) → Within count (get_or (take (s - 1) f.level_sizes) (k - 1) []) (changed_at passed_fields k)
         was_within k some le d p in-it =

@@ -4,7 +4,7 @@ use Rattle.card.specs.Meaning.{Bytes}
 use Rattle.pager.specs.declared.saved_page.SavedPage.{SavedPage}
 use Rattle.pager.specs.declared.saved_page.Was.{Was}
 use Rattle.pager.specs.declared.saved_page.Was.TheVariants.{Changed, Unchanged, Absent}
-use Rattle.pager.specs.Machine.{Machine, cleared, pushed, written, released, back}
+use Rattle.pager.specs.Machine.{Machine, cleared, pushed, written, saved_in_all, released, back}
 use Rattle.pager.specs.Saved.{has, first, gathered}
 
 -- a page of this byte alone
@@ -23,6 +23,10 @@ grown = written 0 2 (page 9) (written 0 1 (page 8) (pushed (cleared files)))
 -- after savepoint 2 is made, page 3 is added, of 5
 abbrev pub deeper : Machine
 deeper = written 0 3 (page 5) (pushed grown)
+
+-- after each of two savepoints is made, page 1 is written, so both have saved it
+abbrev pub twice : Machine
+twice = written 0 1 (page 6) (pushed (written 0 1 (page 8) (pushed (cleared files))))
 
 -- which savepoints saved page p of database 0, the top one first
 abbrev pub who_saved : ℕ → Machine → List Bool
@@ -50,6 +54,9 @@ pub record Examples : Type 0 where
   -- a release keeps what is held now, and what was saved passes to the savepoint below
   pub release_held : (released 1 grown).held.current 0 ≡ page 8 ++ page 9
   pub release_saved : who_saved 3 (released 2 deeper) ≡ true ∷ []
+  -- a page that two savepoints saved counts twice; after a release of the upper one it counts once
+  pub all_twice : saved_in_all twice.savepoints ≡ 2
+  pub all_once : saved_in_all (released 2 twice).savepoints ≡ 1
   -- what page 2 was when savepoint 3 was made; savepoint 1 has not saved it
   pub first_at : first 3 three 0 2 ≡ Some (Changed (page 9))
   pub has_not : has 1 three 0 2 ≡ false

@@ -4,7 +4,7 @@
 use Rattle.std.specs.Prelude.{ℕ, ◌+◌, ◌-◌, ◌*◌, ◌/◌, false, cond, ◌||◌, List, [], ◌∷◌, length, take, drop, ◌==◌}
 use Rattle.card.specs.Meaning.{Bytes}
 use Rattle.card.specs.Calls.{overwrite}
-use Rattle.page_map.specs.Sets.{PageSet, including}
+use Rattle.page_map.specs.Sets.{PageSet, including, total}
 
 -- the bytes of a page
 abbrev pub page_size : ℕ
@@ -62,6 +62,11 @@ pushed m = record { held = m.held; savepoints = record { held = m.held; saved = 
 unfoldable pub saved_by : List Savepoint → ℕ → PageSet
 saved_by [] d p = false
 saved_by (s ∷ ss) d p = s.saved d p || saved_by ss d p
+
+-- how many pages these savepoints have saved, in all four databases; a page that two of them saved counts twice
+unfoldable pub saved_in_all : List Savepoint → ℕ
+saved_in_all [] = 0
+saved_in_all (s ∷ below) = total s.saved 4 + saved_in_all below
 
 -- the pages that these savepoints saved pass to the one below, each once; with none below they are dropped
 unfoldable pub pass_down : List Savepoint → List Savepoint → List Savepoint

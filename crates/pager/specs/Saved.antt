@@ -1,7 +1,8 @@
 -- The store of saved pages, as a list in the order of saving: which savepoint saved which page, and
 -- what a page was when a savepoint was made.
-use Rattle.std.specs.Prelude.{ℕ, ◌-◌, min, Bool, true, false, cond, ◌&&◌, List, [], ◌∷◌, ◌++◌, Some, None, Option, ◌==◌, nat_le}
+use Rattle.std.specs.Prelude.{◌≡◌, ℕ, zero, suc, ◌+◌, ◌-◌, ◌<◌, min, Bool, true, false, cond, ◌&&◌, List, [], ◌∷◌, ◌++◌, Some, None, Option, ◌==◌, nat_le}
 use Rattle.std.specs.List.{list_any}
+use Rattle.page_map.specs.Sets.{is_page, total}
 use Rattle.pager.specs.declared.saved_page.SavedPage.{SavedPage}
 use Rattle.pager.specs.declared.saved_page.Was.{Was}
 use Rattle.pager.specs.declared.saved_page.Was.TheVariants.{Changed, Unchanged, Absent}
@@ -17,6 +18,15 @@ has k rows d p = list_any (λ row. row.level == k && is_saved d p row) rows
 -- savepoint k or one above it has saved the page
 unfoldable pub has_from : ℕ → List SavedPage → ℕ → ℕ → Bool
 has_from k rows d p = list_any (λ row. nat_le k row.level && is_saved d p row) rows
+
+-- how many pages the lowest k savepoints have saved, in all four databases; a page that two of them saved counts twice
+unfoldable pub saved_total : ℕ → List SavedPage → ℕ
+saved_total zero rows = 0
+saved_total (suc k) rows = total (has (suc k) rows) 4 + saved_total k rows
+
+-- the row is of one of the first databases, and of a page that a database can have
+abbrev pub Placed : ℕ → SavedPage → Type 0
+Placed count row = (row.database < count) × (is_page row.page ≡ true)
 
 -- what the page was when savepoint k was made: what it was when it was first saved since
 unfoldable pub first : ℕ → List SavedPage → ℕ → ℕ → Option Was

@@ -1,12 +1,12 @@
 -- What the fields of a transaction's memory keep among themselves.
-use Rattle.std.specs.Prelude.{◌≡◌, ℕ, suc, ◌-◌, ◌<◌, ◌≤◌, true, false, List, [], length, is_some, slice_index, slice_index_or}
+use Rattle.std.specs.Prelude.{◌≡◌, ℕ, suc, ◌-◌, ◌<◌, ◌≤◌, true, false, List, [], All, length, is_some, slice_index, slice_index_or}
 use Rattle.page_map.specs.declared.PageMap.{PageMap}
 use Rattle.pager.specs.declared.changed_page.ChangedPage.{ChangedPage}
 use Rattle.pager.specs.declared.saved_page.SavedPage.{SavedPage}
 use Rattle.page_map.specs.Sets.{PageSet, total}
 use Rattle.page_map.specs.Words.{pages_of}
 use Rattle.pager.specs.Changed.{look}
-use Rattle.pager.specs.Saved.{has_from, first, was_changed}
+use Rattle.pager.specs.Saved.{has_from, saved_total, Placed, first, was_changed}
 
 -- the fields, with the stores as lists
 pub record Fields : Type 0 where
@@ -35,10 +35,14 @@ Within count sizes pages = (d p : ℕ) → pages d p ≡ true → (d < count) ×
 pub record Sound (count : ℕ) (f : Fields) : Type 0 where
   -- the pages in the maps are those in the store
   pub link : (d p : ℕ) → d < 4 → map_of f.maps d p ≡ is_some (look f.changed d p)
-  -- the store has as many rows as pages are changed, in all four databases
+  -- the store of changed pages has as many rows as pages are changed, in all four databases
   pub all : length f.changed ≡ total (map_of f.maps) 4
   -- a changed page is one of its database, now and at the making of each savepoint that stands
   pub within : Within count f.sizes (map_of f.maps)
   pub was_within : (k : ℕ) → 1 ≤ k → k ≤ length f.level_sizes → Within count (sizes_at f k) (changed_at f k)
   -- no page is saved by a savepoint that does not stand
   pub below : (d p : ℕ) → has_from (suc (length f.level_sizes)) f.saved d p ≡ false
+  -- each saved page is of a database that there is, and one that a database can have
+  pub placed : All (Placed count) f.saved
+  -- the store of saved pages has as many rows as the savepoints that stand have saved pages, taken together
+  pub saved_all : length f.saved ≡ saved_total (length f.level_sizes) f.saved

@@ -3,7 +3,7 @@ ghost use Rattle.std.specs.Prelude.{◌≡◌, ℕ, ◌*◌, ◌<◌, ◌≤◌,
 ghost use Rattle.std.specs.Option.{option_map};
 ghost use Rattle.pager.specs.Changed.{look};
 ghost use Rattle.pager.specs.Examples.{Examples};
-ghost use Rattle.pager.specs.Machine.{cleared};
+ghost use Rattle.pager.specs.Machine.{cleared, saved_in_all};
 ghost use Rattle.page_map.specs.Listed.{above, EachOnce};
 ghost use Rattle.page_map.specs.Walks.{left};
 ghost use Rattle.page_map.specs.Sets.{counted, NoneAbove, NextAbove, VisitLaw};
@@ -124,9 +124,10 @@ impl Memory {
         self.levels.len()
     }
 
-    /// How many pages are saved, by all savepoints.
+    /// How many pages are saved, by all savepoints: a page that two of them saved counts twice.
     pub fn saved_count(&self) -> usize
-        ensures { result ≡ length self.now.saved.rows.items }
+        ensures rows { result ≡ length self.now.saved.rows.items }
+        ensures all { (files : ℕ → List ℕ) → result ≡ saved_in_all (view files self.now).savepoints }
     {
         self.saved.count()
     }

@@ -25,7 +25,7 @@ invariant_of-self c =
     record {
       few = m.few;
       low = omega (arith, m.low);
-      sound = ∥∥₁_map m.sound (λ old. rw (c.passed_down-self.ensures, c.truncate.ensures) (sound_released (λ _. []) (fields m) s n low high (none_above m) m.count refl old));
+      sound = ∥∥₁_map m.sound (λ old. rw (c.passed_down-self.ensures, c.truncate.ensures) (sound_released (λ _. []) (fields m) s n low high (none_above m) m.count m.few refl old));
     }
 
 pub returns : goal.returns

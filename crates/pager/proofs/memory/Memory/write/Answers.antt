@@ -16,7 +16,7 @@ invariant_of-self c =
     let wrote =
     wrote_from m d p c.args.bytes.now c.in_ok-row.row c.max.result c.insert.new.self c.put.new.self c.add_once.new.self (omega arith) (omega arith) (page_is m d p ok.page) c.max.ensures c.insert.ensures c.put.ensures.look c.in_ok-row.ensures.whole
     (c.add_once.ensures.rows ∙ saved_added m d p c.len.result c.was-was.result c.len.ensures.is c.was-was.ensures) in
-    record { few = m.few; low = m.low; sound = ∥∥₁_map m.sound (sound_written m.count (fields m) _ d p c.args.bytes.now wrote ok.database m.few (page_is m d p ok.page) (page_high m d p ok.page) ok.whole (look_long m.changed.rows.items m.changed.whole) c.put.ensures.used) }
+    record { few = m.few; low = m.low; sound = ∥∥₁_map m.sound (sound_written m.count (fields m) _ d p c.args.bytes.now wrote ok.database m.few (page_is m d p ok.page) (page_high m d p ok.page) ok.whole (look_long m.changed.rows.items m.changed.whole) c.put.ensures.used c.len.result c.was-was.result c.len.ensures.is c.add_once.ensures.rows) }
 
 pub returns-clause-done : goal.returns-clause-done
 returns-clause-done c _ files =
