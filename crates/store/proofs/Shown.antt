@@ -1,8 +1,7 @@
 -- A read that is answered well shows the page that the transaction holds: the page of the machine over
 -- what the files hold.
-use Rattle.std.proofs.Common.{◌≡◌, ℕ, zero, suc, ◌<◌, ◌≤◌, leb, [], ◌∷◌, ◌++◌, length, get_or, take, drop, replicate, Some, None, Ok, Err, Option, Result, sym, refl, ap, ◌∙◌, arith, length-drop}
-use native.Mathlib.Decide.{ℕ_discrete}
-use Rattle.std.proofs.lemmas.List.{drop_at, take_all, take-append-le, drop-append-le}
+use Rattle.std.proofs.Common.{◌≡◌, ℕ, ◌<◌, ◌≤◌, leb, [], ◌∷◌, length, get_or, drop, replicate, Some, None, Ok, Err, Option, Result, sym, refl, ap, ◌∙◌, arith, length-drop}
+use Rattle.std.proofs.lemmas.List.{take-append-le}
 use Rattle.std.proofs.lemmas.Bool.{eqb-true, leb-true, ltb-true, and_parts}
 use Rattle.card.specs.Meaning.{Meaning, Bytes, Name}
 use Rattle.card.specs.Calls.{read, Worked, part, part_of, tested, name_ok}
@@ -14,7 +13,7 @@ use Rattle.refusal.specs.declared.fault.SetFault.{SetFault}
 use Rattle.refusal.specs.declared.refusals.Refusal.{Refusal}
 use Rattle.pager.specs.declared.memory.Memory.{Memory}
 use Rattle.pager.specs.Changed.{look}
-use Rattle.pager.specs.View.{joined, file_page, or_file, fields, page_now, view}
+use Rattle.pager.specs.View.{file_page, or_file, fields, page_now, view}
 use Rattle.pager.proofs.Members.{page_of}
 use Rattle.pager.proofs.Sizes.{page_long}
 use Rattle.steps.specs.Tasks.{task, Went, ToldBytes}
