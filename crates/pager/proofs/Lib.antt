@@ -12,4 +12,5 @@ pub mod Counted
 pub mod Sizes
 mod Walks
 pub mod Members
+pub mod Lands
 mod Cases

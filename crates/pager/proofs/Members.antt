@@ -20,7 +20,7 @@ module _ (m : Memory) (d p : ℕ) (is : map_of m.maps d p ≡ true) where
   pub changed_known : d < m.count
   changed_known = ltb-true d m.count (∥∥₁_elim m.sound (Bool-set _ _) (λ s. lt-ltb d m.count (s.within d p is).0))
 
-  changed_low : 1 ≤ p
+  pub changed_low : 1 ≤ p
   changed_low = leb-true 1 p (∥∥₁_elim m.sound (Bool-set _ _) (λ s. le-leb 1 p (s.within d p is).1))
 
   pub changed_high : p ≤ get_or m.sizes d 0
