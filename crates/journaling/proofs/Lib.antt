@@ -3,3 +3,4 @@ pub mod Copies
 pub mod Readings
 pub mod Fills
 pub mod Makes
+pub mod Cases

@@ -2,6 +2,7 @@
 ghost use Rattle.std.specs.Prelude.{◌≡◌, ◌≤◌};
 ghost use Rattle.pager.specs.Sound.{map_of};
 ghost use Rattle.journaling.specs.Changes.{is_changed, recorded};
+ghost use Rattle.journaling.specs.Examples.{Examples};
 
 use few::Few;
 use journal::RECORD_LIMIT;
@@ -11,9 +12,11 @@ use pager::Memory;
 pub const RECORDS: usize = RECORD_LIMIT as usize;
 
 /// Whether a database has a changed page.
+// The examples of the plan stand on this contract, since the check proves its other clause by itself.
 #[tactic(auto, using(pager::proofs::Members::none_changed))]
 pub fn is_changed(memory: &Memory, database: usize) -> bool
-    ensures { result ≡ is_changed (map_of memory.now.maps) database }
+    ensures is { result ≡ is_changed (map_of memory.now.maps) database }
+    ensures examples { Examples }
 {
     memory.changed_count(database).is_ok_and(|n| n >= 1)
 }
