@@ -1,2 +1,3 @@
 pub mod UpTo
 mod Restored
+mod Cases

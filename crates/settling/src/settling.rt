@@ -3,6 +3,7 @@ ghost use Rattle.std.specs.Prelude.{ℕ, ◌<◌};
 ghost use Rattle.steps.specs.Tasks.{Went};
 ghost use Rattle.names.specs.Files.{how_many, file_of, super_file};
 ghost use Rattle.survey.specs.Seen.{Seen, Stands, FoundOf};
+ghost use Rattle.settling.specs.Examples.{Examples};
 ghost use Rattle.settling.specs.Settled.{SeenOf, restore_tasks, all_tasks, super_tasks, settle_tasks};
 
 use crate::playback::play;
@@ -33,8 +34,12 @@ fn restore<C: Card>(
 }
 
 /// Deletes the super-journal, if it is present.
+// The small sets stand on this call, the last that settling makes. `using`: they are proved at each return
+// alike, and so they have no proof file.
+#[tactic(auto, using(crate::proofs::Cases::examples))]
 fn delete_super<C: Card>(card: &mut C, names: &Names) -> Result<(), SetFault>
-    ensures { Went C.Card.meaning (super_tasks (file_of names.now) (C.Card.meaning.holds card.old (super_file names.now))) card.old result card.new }
+    ensures went { Went C.Card.meaning (super_tasks (file_of names.now) (C.Card.meaning.holds card.old (super_file names.now))) card.old result card.new }
+    ensures examples { Examples }
 {
     match length_of(card, names, Step::R3, SUPER_JOURNAL)? {
         None => Ok(()),

@@ -1,3 +1,4 @@
 mod Searched
 mod Surveyed
 mod Listings
+mod Cases

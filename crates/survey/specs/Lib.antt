@@ -2,3 +2,4 @@ pub mod Seen
 pub mod Finds
 pub mod Linked
 pub mod Tells
+pub mod Examples

@@ -2,6 +2,7 @@
 ghost use Rattle.std.specs.Prelude.{◌≡◌, ◌≢◌, true, None};
 ghost use Rattle.refusal.specs.Results.{refused};
 ghost use Rattle.store.specs.Modes.{next, counted, says, given};
+ghost use Rattle.store.specs.Examples.{Examples};
 ghost use Rattle.store.specs.Between.{AsStored};
 ghost use Rattle.store.specs.Calls.{Fresh, KeptIfRefused, ButMode, ButRun};
 ghost use Rattle.store.specs.declared.mode.Mode.TheVariants.{Ready};
@@ -15,6 +16,8 @@ use refusal::Refusal;
 impl<C> Set<C> {
     /// Begins a transaction: nothing is changed, and no savepoint stands. It is never refused: on a set that is not
     /// ready, or has begun 4,294,967,295 transactions, the token is void, its number 0, and the set is as it was.
+    // `using`: the examples of the modes are proved at each return alike, and so they have no proof file
+    #[tactic(auto, using(crate::proofs::Cases::examples))]
     pub fn begin(&mut self, nonce: u32) -> Transaction
         ensures number { result.number ≡ given self.old.mode self.old.begun }
         ensures live { result.«open» ≡ true }
@@ -23,6 +26,7 @@ impl<C> Set<C> {
         ensures start { result.number ≢ 0 → AsStored self.new.memory self.old.stored.rows }
         ensures kept { result.number ≡ 0 → self.new ≡ self.old }
         ensures others { ButMode self.old self.new }
+        ensures examples { Examples }
     {
         match self.admit(Call::Begin { nonce }) {
             Ok(()) => Transaction::new(self.begun),

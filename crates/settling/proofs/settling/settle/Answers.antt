@@ -20,4 +20,4 @@ returns g c =
     λ seen all.
     let first = c.in_ok-restore_all.ensures seen all in
     went_then _ _ _ _ _ _ _ _ first
-    (subst (λ (f : Option Bytes). Went g.C.Card.meaning {V = Unit {0}} (super_tasks (file_of c.args.names.now) f) c.restore_all.new.card c.delete_super.result c.delete_super.new.card) (super_kept _ c.args.names.now seen _ _ few first) c.delete_super.ensures)
+    (subst (λ (f : Option Bytes). Went g.C.Card.meaning {V = Unit {0}} (super_tasks (file_of c.args.names.now) f) c.restore_all.new.card c.delete_super.result c.delete_super.new.card) (super_kept _ c.args.names.now seen _ _ few first) c.delete_super.ensures.went)
