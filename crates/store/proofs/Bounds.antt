@@ -12,13 +12,13 @@ use Rattle.sizes.specs.Fitting.{Fitting}
 use Rattle.store.proofs.Kept.{passed}
 
 -- what the tests of a write leave
-record Allowed (m : Memory) (d p long : ℕ) : Type 0 where
+pub record Allowed (m : Memory) (d p long : ℕ) : Type 0 where
   pub whole : long ≡ 512
   pub low : 1 ≤ p
   pub high : p ≤ get_or m.sizes d 0 + 1
   pub last : p ≤ 4096
 
-allowed : (m : Memory) (d p long : ℕ) → write_refusal m d p long ≡ None → Allowed m d p long
+pub allowed : (m : Memory) (d p long : ℕ) → write_refusal m d p long ≡ None → Allowed m d p long
 allowed m d p long is =
     let known = passed _ _ _ is in
     let full = passed _ _ _ known.1 in

@@ -1,6 +1,7 @@
 mod Kept
 mod Shown
 mod Bounds
+mod Grows
 pub mod Filed
 pub mod Carried
 pub mod Sized

@@ -1,7 +1,9 @@
--- What a set keeps between its calls: which transaction runs, and what the memory is where none does.
-use Rattle.std.specs.Prelude.{◌≡◌, ℕ, ◌≤◌, Bool, true, false, List}
+-- What a set keeps between its calls: which transaction runs, what the memory is where none does, and that pages
+-- past the stored size are changed.
+use Rattle.std.specs.Prelude.{◌≡◌, ℕ, ◌<◌, ◌≤◌, Bool, true, false, List, slice_index}
 use Rattle.pager.specs.declared.memory.Memory.{Memory}
 use Rattle.pager.specs.Machine.{cleared}
+use Rattle.pager.specs.Sound.{map_of}
 use Rattle.pager.specs.View.{view, Stored}
 use Rattle.store.specs.declared.mode.Mode.{Mode}
 use Rattle.store.specs.declared.mode.Mode.TheVariants.{Cold, Ready, Running}
@@ -30,3 +32,8 @@ pub record AsStored (memory : Memory) (rows : List ℕ) : Type 0 where
 -- it does while no transaction runs
 abbrev pub Rested : Mode → Memory → List ℕ → Type 0
 Rested mode memory rows = runs mode ≡ false → AsStored memory rows
+
+-- a database has in memory the pages that are stored, and each page past them is changed
+pub record Grown (memory : Memory) (rows : List ℕ) : Type 0 where
+  pub size : (d : ℕ) → slice_index rows d ≤ slice_index memory.sizes d
+  pub past : (d p : ℕ) → slice_index rows d < p → p ≤ slice_index memory.sizes d → map_of memory.maps d p ≡ true

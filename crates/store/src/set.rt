@@ -2,7 +2,7 @@
 ghost use Rattle.std.specs.Prelude.{◌≡◌};
 ghost use Rattle.names.specs.Files.{how_many};
 ghost use Rattle.sizes.specs.Fitting.{Fitting};
-ghost use Rattle.store.specs.Between.{Live, Rested};
+ghost use Rattle.store.specs.Between.{Grown, Live, Rested};
 
 use crate::mode::Mode;
 use journal::JOURNAL_LIMIT;
@@ -37,6 +37,7 @@ pub struct Set<C> {
     ghost fitting: { Fitting memory.sizes },
     ghost live: { Live mode begun },
     ghost rest: { Rested mode memory stored.rows },
+    ghost grown: { Grown memory stored.rows },
 }
 
 // With a card of no bytes the set takes at most 64 KiB.
