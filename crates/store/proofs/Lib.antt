@@ -4,3 +4,4 @@ mod Bounds
 pub mod Filed
 pub mod Carried
 pub mod Sized
+pub mod Standing

@@ -4,3 +4,4 @@ pub mod Calls
 pub mod Reads
 pub mod Commits
 pub mod Recovers
+pub mod Standing
