@@ -1,3 +1,4 @@
 mod InPages
 mod Measuring
 mod Parts
+pub mod Standing

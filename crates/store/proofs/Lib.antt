@@ -6,3 +6,4 @@ pub mod Filed
 pub mod Carried
 pub mod Sized
 mod Cases
+pub mod Standing

@@ -5,3 +5,4 @@ pub mod Reads
 pub mod Commits
 pub mod Recovers
 pub mod Examples
+pub mod Standing

@@ -1,7 +1,8 @@
 // Recovering a set: it becomes ready with what its databases hold.
-ghost use Rattle.std.specs.Prelude.{◌≡◌};
+ghost use Rattle.std.specs.Prelude.{◌≡◌, IfOk};
 ghost use Rattle.store.specs.Calls.{ButRun};
 ghost use Rattle.store.specs.Recovers.{Sized, Restarted, Recovers};
+ghost use Rattle.store.specs.Standing.{AsFiles};
 
 use crate::mode::Mode;
 use crate::set::Set;
@@ -35,9 +36,11 @@ impl<C> Set<C> {
 
 impl<C: Card> Set<C> {
     /// Recovers the set, in any mode: what a failed commit left is rolled back or forgotten. A running
-    /// transaction ends. The set is ready then, or cold if the recovery is refused.
+    /// transaction ends. The set is ready then, or cold if the recovery is refused. Ready,
+    /// its files hold whole pages, as many as it says, and it shows just what they hold.
     pub fn recover(&mut self) -> Result<Recovery, Refusal>
-        ensures { Recovers C.Card.meaning self.old result self.new }
+        ensures recovers { Recovers C.Card.meaning self.old result self.new }
+        ensures shows { IfOk result (λ _. AsFiles C.Card.meaning self.new) }
     {
         let answer = recover(&mut self.card, &self.names, &mut self.buffer);
         self.restart(answer)

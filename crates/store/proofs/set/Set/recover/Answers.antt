@@ -7,13 +7,14 @@ use Rattle.recovery.specs.Recovered.{Recovered}
 use Rattle.store.specs.Reads.{file_of}
 use Rattle.store.specs.Recovers.{Recovers}
 use Rattle.store.proofs.Sized.{sized}
+use Rattle.store.proofs.Standing.{shows}
 use Rattle.store.proofs.set.Set.recover.Goals as goal
 
 pub restart-requires : goal.restart-requires
 restart-requires g c = sized _ _ _ _ _ _ c.recover-answer.ensures
 
-pub returns : goal.returns
-returns g c =
+pub returns-clause-recovers : goal.returns-clause-recovers
+returns-clause-recovers g c =
     let m : Meaning g.row.C.Denot = g.C.Card.meaning in
     let s = c.args.self.now in
     let s' = c.restart.new.self in
@@ -25,3 +26,6 @@ returns g c =
       names = d.others.names;
       begun = d.others.begun;
     })
+
+pub returns-clause-shows : goal.returns-clause-shows
+returns-clause-shows g c = shows g.C.Card.meaning c.args.self.now c.restart.new.self c.restart.result (returns-clause-recovers g c)
