@@ -6,3 +6,5 @@ pub mod Trying
 pub mod Sequence
 pub mod Linked
 pub mod Closing
+pub mod Dropping
+pub mod Landed

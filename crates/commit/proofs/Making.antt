@@ -19,7 +19,7 @@ module _ {C : Type 0} (m : Meaning C) (file : ℕ → Name) (nonce : ℕ) (super
   reads_spare k n d i (p ∷ ps) = (inl tt, reads_spare k n d (suc i) ps)
 
   -- another file than the journal holds what it held
-  journal_spares : (k : Name) (ch : Change) → (k ≡ file (4 + ch.database) → ⊥) → AllByRecursion (Spares m k) (journal_tasks file nonce super ch)
+  pub journal_spares : (k : Name) (ch : Change) → (k ≡ file (4 + ch.database) → ⊥) → AllByRecursion (Spares m k) (journal_tasks file nonce super ch)
   journal_spares k ch ne =
       (inr ne, all_append m (Spares m k) (read_tasks (file ch.database) ch.database 1 ch.recorded) _ (reads_spare k (file ch.database) ch.database 1 ch.recorded) (inr ne, (inr ne, (inr ne, (inr ne, tt)))))
 

@@ -1,9 +1,10 @@
 -- What files hold after a run that came through: what they held, if no act is on them, or if all acts only look.
-use Rattle.std.proofs.Common.{◌≡◌, ℕ, ◌⊎◌, List, [], ◌∷◌, ◌++◌, Option, sym, refl, ap, ◌∙◌, inl, inr, arith}
+-- And what may remain of them then.
+use Rattle.std.proofs.Common.{◌≡◌, ℕ, ◌⊎◌, List, [], ◌∷◌, ◌++◌, Some, Option, sym, refl, ap, ◌∙◌, subst, inl, inr, arith}
 use native.Mathlib.Decide.{ℕ_discrete}
 use Rattle.std.specs.List.{AllByRecursion}
-use Rattle.card.specs.Meaning.{Meaning, Bytes, Name}
-use Rattle.card.specs.Calls.{Op, length_of, read, create, write, set_length, sync, delete, Worked, worked}
+use Rattle.card.specs.Meaning.{Meaning, May, Untouched, Bytes, Name}
+use Rattle.card.specs.Calls.{Op, length_of, read, create, write, set_length, sync, delete, Could, Worked, worked}
 use Rattle.card.specs.Runs.{Act, through, Runs, end, next}
 use Rattle.card.specs.Crash.{Leaves}
 use Rattle.steps.specs.Tasks.{Task, acts, Looks}
@@ -27,6 +28,16 @@ worked_look (write p b) f l = elim l [ ]
 worked_look (set_length k) f l = elim l [ ]
 worked_look sync f l = elim l [ ]
 worked_look delete f l = elim l [ ]
+
+-- after a call that only looks no more may remain of its file than before
+could_look : (op : Op) (could : Option Bytes → Type 0) (f o : Option Bytes) → Looks op → Could op could f o → could o
+could_look length_of could f o l h = h
+could_look (read p k) could f o l h = h
+could_look create could f o l h = elim l [ ]
+could_look (write p b) could f o l h = elim l [ ]
+could_look (set_length k) could f o l h = elim l [ ]
+could_look sync could f o l h = elim l [ ]
+could_look delete could f o l h = elim l [ ]
 
 module _ {C : Type 0} (m : Meaning C) where
   -- a call that only looks leaves what files hold
@@ -62,10 +73,31 @@ module _ {C : Type 0} (m : Meaning C) where
   abbrev pub Spares : Name → Task → Type 0
   Spares k t = Looks t.act.op ⊎ (k ≡ t.act.name → ⊥)
 
-  pub spared_holds : (k : Name) (ts : List Task) (c c' : C) → AllByRecursion (Spares k) ts → Runs m (acts ts) c through c' → m.holds c' k ≡ m.holds c k
-  spared_holds k [] c c' s end = refl
-  spared_holds k (t ∷ ts) c c' s (next {c₁ = d} w r) = spared_holds k ts d c' s.1 r ∙ one s.0
+  -- of the file k nothing may remain but what it holds
+  abbrev pub Safe : C → Name → Type 0
+  Safe c k = (b : Bytes) → m.remains c k b → m.holds c k ≡ Some b
+
+  pub untouched_safe : (k : Name) (c c' : C) → Untouched m c k c' → Safe c k → Safe c' k
+  untouched_safe k c c' u s b r = u.holds ∙ s b (u.remains b r)
+
+  pub untouched_then : (k : Name) (c c₁ c₂ : C) → Untouched m c k c₁ → Untouched m c₁ k c₂ → Untouched m c k c₂
+  untouched_then k c c₁ c₂ u v = record { holds = v.holds ∙ u.holds; remains = λ b r. u.remains b (v.remains b r) }
+
+  look_untouched : (k : Name) (c c' : C) (n : Name) (op : Op) → Looks op → Worked m c n op c' → Untouched m c k c'
+  look_untouched k c c' n op l w = by (name_same k n)
     where
-      one : Spares k t → m.holds d k ≡ m.holds c k
-      one (inl l) = look_holds c d t.act.name t.act.op l w k
-      one (inr ne) = (w.others k ne).holds
+      by : Dec (k ≡ n) → Untouched m c k c'
+      by (yes e) = subst (λ (x : Name). Untouched m c x c') (sym e) (record { holds = look_holds c c' n op l w n; remains = λ b r. could_look op (May m c n) (m.holds c n) (Some b) l (w.remains b r) })
+      by (no ne) = w.others k ne
+
+  -- tasks that spare the file k leave it alone
+  pub spared_untouched : (k : Name) (ts : List Task) (c c' : C) → AllByRecursion (Spares k) ts → Runs m (acts ts) c through c' → Untouched m c k c'
+  spared_untouched k [] c c' s end = record { holds = refl; remains = λ b r. r }
+  spared_untouched k (t ∷ ts) c c' s (next {c₁ = d} w r) = untouched_then k c d c' (one s.0) (spared_untouched k ts d c' s.1 r)
+    where
+      one : Spares k t → Untouched m c k d
+      one (inl l) = look_untouched k c d t.act.name t.act.op l w
+      one (inr ne) = w.others k ne
+
+  pub spared_holds : (k : Name) (ts : List Task) (c c' : C) → AllByRecursion (Spares k) ts → Runs m (acts ts) c through c' → m.holds c' k ≡ m.holds c k
+  spared_holds k ts c c' s r = (spared_untouched k ts c c' s r).holds

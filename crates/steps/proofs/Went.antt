@@ -28,6 +28,14 @@ module _ {C : Type 0} (m : Meaning C) where
   pub ran_then : (xs ys : List Task) (c c₁ c₂ : C) (e : End) → Runs m (acts xs) c through c₁ → Runs m (acts ys) c₁ e c₂ → Runs m (acts (xs ++ ys)) c e c₂
   ran_then xs ys c c₁ c₂ e p q = subst (λ (list : List Act). Runs m list c e c₂) (sym (acts_append xs ys)) (runs_then (acts xs) (acts ys) c c₁ c₂ e p q)
 
+  -- a run that came through, cut in two
+  pub runs_split : (xs ys : List Act) (c c' : C) → Runs m (xs ++ ys) c through c' → (here : C) × Runs m xs c through here × Runs m ys here through c'
+  runs_split [] ys c c' r = (c, end, r)
+  runs_split (a ∷ xs) ys c c' (next {c₁ = d} w r) = let q = runs_split xs ys d c' r in (q.0, next w q.1, q.2)
+
+  pub ran_split : (xs ys : List Task) (c c' : C) → Runs m (acts (xs ++ ys)) c through c' → (here : C) × Runs m (acts xs) c through here × Runs m (acts ys) here through c'
+  ran_split xs ys c c' r = runs_split (acts xs) (acts ys) c c' (subst (λ (list : List Act). Runs m list c through c') (acts_append xs ys) r)
+
   pub stopped_after : (xs ys : List Task) (c c₁ c₂ : C) (t : Task) (x : Cause) → Runs m (acts xs) c through c₁ → Stopped m ys c₁ t x c₂ → Stopped m (xs ++ ys) c t x c₂
   stopped_after xs ys c c₁ c₂ t x p s =
       record {
