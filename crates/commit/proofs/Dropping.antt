@@ -9,7 +9,7 @@ use Rattle.card.specs.Calls.{Op, Called}
 use Rattle.card.specs.Runs.{Act}
 use Rattle.card.specs.Crash.{Leaves}
 use Rattle.card.proofs.Every.{may_other}
-use Rattle.steps.proofs.Held.{Safe}
+use Rattle.steps.specs.Safe.{Safe}
 use Rattle.commit.specs.Ended.{Tries, done, tried, refusals}
 
 module _ {C : Type 0} (m : Meaning C) (k : Name) where

@@ -22,7 +22,8 @@ use Rattle.pager.specs.Machine.{Machine}
 use Rattle.refusal.specs.declared.step.Step.TheVariants.{C4}
 use Rattle.steps.specs.Tasks.{Task, acts}
 use Rattle.steps.proofs.Went.{ran_split}
-use Rattle.steps.proofs.Held.{Spares, Safe, all_append, spared_untouched, untouched_safe, untouched_then}
+use Rattle.steps.specs.Safe.{Safe}
+use Rattle.steps.proofs.Held.{Spares, all_append, spared_untouched, untouched_safe, untouched_then}
 use Rattle.journaling.specs.Plan.{Change, place, for_each, many, call, write_tasks, super_tasks, journal_tasks, change_tasks, only_tasks, super_of, plan, drops, journal_name}
 use Rattle.journaling.specs.Changes.{contents, is_changed, changed_list, change_of, changes, pages_held}
 use Rattle.commit.specs.Ended.{Committed}

@@ -7,6 +7,7 @@ use Rattle.card.specs.Meaning.{Meaning, May, Untouched, Bytes, Name}
 use Rattle.card.specs.Calls.{Op, length_of, read, create, write, set_length, sync, delete, Could, Worked, worked}
 use Rattle.card.specs.Runs.{Act, through, Runs, end, next}
 use Rattle.card.specs.Crash.{Leaves}
+use Rattle.steps.specs.Safe.{Safe}
 use Rattle.steps.specs.Tasks.{Task, acts, Looks}
 
 pub name_same : (a b : Name) → Dec (a ≡ b)
@@ -73,11 +74,7 @@ module _ {C : Type 0} (m : Meaning C) where
   abbrev pub Spares : Name → Task → Type 0
   Spares k t = Looks t.act.op ⊎ (k ≡ t.act.name → ⊥)
 
-  -- of the file k nothing may remain but what it holds
-  abbrev pub Safe : C → Name → Type 0
-  Safe c k = (b : Bytes) → m.remains c k b → m.holds c k ≡ Some b
-
-  pub untouched_safe : (k : Name) (c c' : C) → Untouched m c k c' → Safe c k → Safe c' k
+  pub untouched_safe : (k : Name) (c c' : C) → Untouched m c k c' → Safe m c k → Safe m c' k
   untouched_safe k c c' u s b r = u.holds ∙ s b (u.remains b r)
 
   pub untouched_then : (k : Name) (c c₁ c₂ : C) → Untouched m c k c₁ → Untouched m c₁ k c₂ → Untouched m c k c₂

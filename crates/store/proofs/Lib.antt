@@ -7,3 +7,4 @@ pub mod Carried
 pub mod Sized
 mod Cases
 pub mod Standing
+pub mod Stored

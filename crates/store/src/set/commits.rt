@@ -1,8 +1,11 @@
 // Committing the running transaction.
-ghost use Rattle.std.specs.Prelude.{◌≡◌};
+ghost use Rattle.std.specs.Prelude.{◌≡◌, IfOk};
+ghost use Rattle.pager.specs.View.{Stored};
 ghost use Rattle.store.specs.Calls.{told, ButRun};
 ghost use Rattle.store.specs.Commits.{Commits, Concluded};
 ghost use Rattle.store.specs.Modes.{says};
+ghost use Rattle.store.specs.Reads.{files_of};
+ghost use Rattle.store.specs.Standing.{Stores};
 ghost use Rattle.store.specs.declared.mode.Call.TheVariants.{Use};
 
 use crate::mode::{Call, Mode};
@@ -39,9 +42,11 @@ impl<C> Set<C> {
 impl<C: Card> Set<C> {
     /// Commits a transaction: its pages become those of the files, in all databases together, and the
     /// number of journals that could not be deleted is told. The token is taken also when the call is
-    /// refused. After a fault the set is cold.
+    /// refused. After a fault the set is cold. Over files of the sizes that are stored, a commit that is done
+    /// leaves in the files what the transaction held.
     pub fn commit(&mut self, t: Transaction) -> Result<usize, Refusal>
-        ensures { Commits C.Card.meaning self.old result self.new (says self.old.mode self.old.begun (Use t.number)) }
+        ensures commits { Commits C.Card.meaning self.old result self.new (says self.old.mode self.old.begun (Use t.number)) }
+        ensures stores { IfOk result (λ left. Stored (files_of C.Card.meaning self.old) self.old.stored.rows → Stores C.Card.meaning self.old left self.new) }
     {
         let number = t.end();
         // The mode gives the nonce; where none runs it is refused as `admit` would.
