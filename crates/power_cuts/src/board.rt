@@ -122,25 +122,27 @@ pub fn transact(set: &mut Set<DelayedCard<'_>>) -> Answers {
     }
 }
 
-/// A letter for a page: o if it is old, N if it is new, ? else, and - if it is not read.
-fn mark(set: &mut Set<DelayedCard<'_>>, database: usize, page: u32) -> char {
+/// What a read of a page shows, as a letter: o if it is old, N if it is new, and ? else.
+pub fn letter(set: &mut Set<DelayedCard<'_>>, database: usize, page: u32) -> Result<char, Refusal> {
     let mut bytes = [0u8; PAGE];
-    match set.read(database, page, &mut bytes) {
-        Ok(()) if bytes == OLD => 'o',
-        Ok(()) if bytes == NEW => 'N',
-        Ok(()) => '?',
-        Err(_) => '-',
-    }
+    set.read(database, page, &mut bytes)?;
+    Ok(if bytes == OLD {
+        'o'
+    } else if bytes == NEW {
+        'N'
+    } else {
+        '?'
+    })
 }
 
-/// What a database shows: a letter for each page.
+/// What a database shows: a letter for each page, - for one that is not read.
 fn shown_one(
     heap: Global,
     set: &mut Set<DelayedCard<'_>>,
     database: usize,
 ) -> anyhow::Result<String> {
     let pages = set.size(database).unwrap_or(0);
-    let marks = (1..=pages).map(|page| mark(set, database, page));
+    let marks = (1..=pages).map(|page| letter(set, database, page).unwrap_or('-'));
     Ok(marks.collect(heap)?)
 }
 

@@ -1,6 +1,6 @@
 // A set of three databases on a delayed card, told call by call: without a cut, and with cuts in the
 // commit and in the recovery; and what is left by a cut at each call of the commit.
-use crate::board::{Answers, Cut, FILES, IMAGE, NAMES, named, prepared, shown, transact};
+use crate::board::{Answers, Cut, FILES, IMAGE, NAMES, letter, named, prepared, shown, transact};
 use crate::words::{Committed, Journals, Place, Refused};
 use card::Card;
 use delayed_card::DelayedCard;
@@ -51,6 +51,20 @@ fn show(rt: &HostRuntime, set: &mut Set<DelayedCard<'_>>) -> anyhow::Result<()> 
     row(rt, "  the databases show", shown(rt.alloc(), set)?)
 }
 
+/// A row for the read of each page of a database, and of the page after its last.
+fn read(
+    rt: &HostRuntime,
+    set: &mut Set<DelayedCard<'_>>,
+    (database, name): (usize, &str),
+) -> anyhow::Result<()> {
+    let pages = set.size(database).unwrap_or(0);
+    for page in 1..=pages.saturating_add(1) {
+        let asked = format!(in rt.alloc(); "read page {page} of {name}")?;
+        answered(rt, &asked, letter(set, database, page))?;
+    }
+    Ok(())
+}
+
 /// A row of the files on a card, with their lengths.
 fn list(rt: &HostRuntime, card: &mut DelayedCard<'_>) -> anyhow::Result<()> {
     let mut files = Vec::new(rt.alloc());
@@ -69,7 +83,9 @@ fn tell_whole(rt: &HostRuntime) -> anyhow::Result<()> {
     recover(rt, &mut set)?;
     show(rt, &mut set)?;
     tell(rt, transact(&mut set))?;
-    show(rt, &mut set)
+    show(rt, &mut set)?;
+    [FILES[0], FILES[2]].try_map(|file| read(rt, &mut set, file))?;
+    Ok(())
 }
 
 /// A transaction that is cut in its commit, a recovery that is cut, and one that is not.
