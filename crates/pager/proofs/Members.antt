@@ -1,11 +1,11 @@
 -- What a sound memory says of a changed page: its database is there and has the page, and the machine holds it.
-use Rattle.std.proofs.Common.{◌≡◌, ℕ, zero, suc, ◌-◌, ◌*◌, ◌<◌, ◌≤◌, true, false, ◌⊎◌, ◌++◌, length, get_or, take, drop, is_some, IfSome, Some, None, Option, Bor, sym, ap, ◌∙◌, inl, inr, arith, length-drop}
+use Rattle.std.proofs.Common.{◌≡◌, ℕ, zero, suc, ◌-◌, ◌*◌, ◌<◌, ◌≤◌, true, false, ◌⊎◌, ◌++◌, length, get_or, take, drop, is_some, IfSome, Some, None, Option, Bor, sym, refl, ap, ◌∙◌, inl, inr, arith, length-drop}
 use mathlib.Core.Bool.{Bool-set}
 use mathlib.Core.Logic.{∥∥₁_elim}
 use native.Mathlib.Decide.{ℕ_discrete, dec_lt}
 use Rattle.std.specs.Option.{option_map}
 use Rattle.std.proofs.lemmas.List.{drop_at, take_all, take-append-le, drop-append-le}
-use Rattle.std.proofs.lemmas.Bool.{cases_Bool, le-leb, leb-true, lt-ltb, ltb-true}
+use Rattle.std.proofs.lemmas.Bool.{cases_Bool, le-leb, leb-true, lt-ltb, ltb-true, both_ways}
 use Rattle.card.specs.Meaning.{Bytes}
 use Rattle.card.specs.Calls.{part}
 use Rattle.page_map.specs.Sets.{PageSet, counted}
@@ -50,6 +50,10 @@ changed_is m d p = by (dec_lt d 4)
     by : Dec (d < 4) → map_of m.maps d p ≡ is_some (look (fields m).changed d p)
     by (yes lt) = linked m d p lt
     by (no ge) = unchanged m d (omega (arith, m.few, ge)) p ∙ sym (none_past m d p (omega arith))
+
+pub none_given : (m : Memory) (d p : ℕ) (o : Option (Bor Bytes)) → m.count ≤ d → option_map (λ x. x.now) o ≡ look (fields m).changed d p → o ≡ None
+none_given m d p None past e = refl
+none_given m d p (Some x) past e = absurd (both_ways _ (unchanged m d past p) (changed_is m d p ∙ ap is_some (sym e)))
 
 -- the page p of pages one after the other
 pub page_of : (n : ℕ) (f : ℕ → Bytes) → ((p : ℕ) → length (f p) ≡ 512) → (p : ℕ) → 1 ≤ p → p ≤ n → part (joined n f) ((p - 1) * 512) 512 ≡ f p

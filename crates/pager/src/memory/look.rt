@@ -55,6 +55,7 @@ impl Memory {
         ensures is { option_map (λ x. x.now) result ≡ look (fields self.now).changed database page }
         ensures changed { database < 4 → map_of self.now.maps database page ≡ is_some (option_map (λ x. x.now) result) }
         ensures view { (files : ℕ → List ℕ) → IfSome result (λ x. x.now ≡ part ((view files self.now).held.current database) ((page - 1) * 512) 512) }
+        ensures absent { self.now.count ≤ database → result ≡ None }
     {
         self.changed.get(database, page)
     }
@@ -109,6 +110,7 @@ impl Memory {
         ensures few { length (left result) ≤ 32 }
         ensures held { All (λ p. is_some (look (fields self.now).changed database p) ≡ true) (left result) }
         ensures once { EachOnce (map_of self.now.maps database) (left result) }
+        ensures absent { self.now.count ≤ database → left result ≡ [] }
     {
         Pages::new(self.maps.get(database))
     }
