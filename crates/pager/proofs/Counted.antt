@@ -1,9 +1,9 @@
--- What the invariant of a memory tells a caller: a database has at most 32 changed pages, and the store of
--- saved pages has as many rows as the savepoints have saved pages.
+-- What the invariant of a memory tells a caller: a database has at most 32 changed pages, no page past the
+-- four databases is changed, and the store of saved pages has as many rows as the savepoints have saved pages.
 use Rattle.std.proofs.Common.{◌≡◌, ℕ, suc, ◌+◌, ◌<◌, ◌≤◌, true, false, cond, eqb, Bool, ◌⊎◌, List, [], ◌∷◌, length, is_some, find, Some, sym, refl, ap, ◌∙◌, ap₂, inl, inr, arith}
 use Rattle.std.specs.Option.{option_map}
 use native.Mathlib.Decide.{ℕ_discrete, dec_lt}
-use Rattle.std.proofs.lemmas.Bool.{cases_Bool, cond-true, cond-false, eq-eqb, ne_eqb, and_left, and_right, both_ways}
+use Rattle.std.proofs.lemmas.Bool.{cases_Bool, cond-true, cond-false, eqb-true, eq-eqb, ne_eqb, and_parts, and_left, and_right, both_ways}
 use Rattle.card.specs.Meaning.{Bytes}
 use Rattle.page_map.specs.Sets.{PageSet, is_page, without, including, counted, total}
 use Rattle.page_map.proofs.Totals.{total_with, total_free, total_part}
@@ -13,7 +13,7 @@ use Rattle.pager.specs.Changed.{look, is_row}
 use Rattle.pager.specs.Sound.{map_of}
 use Rattle.pager.specs.Machine.{saved_in_all}
 use Rattle.pager.specs.View.{fields, view}
-use Rattle.pager.proofs.Keeps.{in_all, saved_in}
+use Rattle.pager.proofs.Keeps.{linked, in_all, saved_in}
 use Rattle.pager.proofs.SavedRows.{stack_total}
 
 -- each page of the sets that a database can have stands in the rows
@@ -105,9 +105,32 @@ bound (row ∷ rows) f covers = by (fewer row rows f covers) (bound rows)
     by (inl same) earlier = omega (arith, earlier f same)
     by (inr (g, (less, one))) earlier = omega (arith, earlier g less)
 
+-- where a row has a page past the four databases, the rows are more than the pages that they cover
+spare : (rows : List ChangedPage) (f : ℕ → PageSet) (d p : ℕ) → Covers rows f → 4 ≤ d → is_some (look rows d p) ≡ true → total f 4 < length rows
+unfolding Fewer look
+spare [] f d p covers past some = absurd (both_ways false refl some)
+spare (row ∷ rows) f d p covers past some = by (cases_Bool (is_row d p row)) (fewer row rows f covers) (λ g less. spare rows g d p less past)
+  where
+    by :
+        (is_row d p row ≡ true) ⊎ (is_row d p row ≡ false) → Fewer rows f →
+        ((g : ℕ → PageSet) → Covers rows g → is_some (look rows d p) ≡ true → total g 4 < length rows) → total f 4 < suc (length rows)
+    by (inl t) _ _ =
+        let e = eqb-true row.database d (and_parts _ _ t).0 in
+        omega (arith, bound rows f (miss row rows f covers (λ lt _ _. absurd (omega (arith, e, lt, past)))))
+    by (inr u) (inl same) earlier = omega (arith, earlier f same (later row rows d p u some))
+    by (inr u) (inr (g, (less, one))) earlier = omega (arith, one, earlier g less (later row rows d p u some))
+
 -- the store of changed pages has as many rows as pages are changed
 pub changed_all : (m : Memory) → length m.changed.rows.items ≡ total (map_of m.maps) 4
 changed_all m = in_all m
+
+-- no page past the four databases stands in the store
+pub none_past : (m : Memory) (d p : ℕ) → 4 ≤ d → is_some (look (fields m).changed d p) ≡ false
+none_past m d p past = by (cases_Bool (is_some (look (fields m).changed d p)))
+  where
+    by : (is_some (look (fields m).changed d p) ≡ true) ⊎ (is_some (look (fields m).changed d p) ≡ false) → is_some (look (fields m).changed d p) ≡ false
+    by (inr out) = out
+    by (inl some) = absurd (omega (arith, changed_all m, spare (fields m).changed (map_of m.maps) d p (λ e q lt _ is. sym (linked m e q lt) ∙ is) past some))
 
 -- the store of saved pages has as many rows as the savepoints of the machine have saved pages
 pub saved_all : (m : Memory) (files : ℕ → Bytes) → length m.saved.rows.items ≡ saved_in_all (view files m).savepoints

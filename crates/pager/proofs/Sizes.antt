@@ -1,12 +1,13 @@
 -- The sizes of a memory are those of the machine that it is: so a write of a page makes a database as
 -- large as the page's number asks, and no other.
-use Rattle.std.proofs.Common.{◌≡◌, ℕ, ◌+◌, ◌-◌, ◌*◌, ◌<◌, ◌≤◌, max, cond, eqb, List, [], length, get_or, Some, None, Option, refl, ap, ◌∙◌, arith}
+use Rattle.std.proofs.Common.{◌≡◌, ℕ, ◌+◌, ◌-◌, ◌*◌, ◌/◌, ◌<◌, ◌≤◌, max, cond, eqb, List, [], length, get_or, Some, None, Option, refl, ap, ◌∙◌, arith}
+use Rattle.std.proofs.Math.Nat.{mul-div_cancel}
 use Rattle.std.proofs.lemmas.Bool.{cond-true, cond-false, eq-eqb, ne_eqb}
 use Rattle.card.specs.Meaning.{Bytes}
 use Rattle.card.proofs.Contents.{length_overwrite}
 use Rattle.pager.specs.declared.memory.Memory.{Memory}
 use Rattle.pager.specs.Changed.{look}
-use Rattle.pager.specs.Machine.{Machine, put, put_page, written}
+use Rattle.pager.specs.Machine.{Machine, size_of, put, put_page, written}
 use Rattle.pager.specs.View.{file_page, or_file, fields, page_now, view}
 use Rattle.pager.proofs.Keeps.{look_long}
 use Rattle.pager.proofs.Pages.{length_file_page, length_joined}
@@ -22,6 +23,9 @@ page_long files m d p = by (look (fields m).changed d p) (look_long m.changed.ro
 -- a database holds as many pages as its size says
 pub held_long : (files : ℕ → Bytes) (m : Memory) (d : ℕ) → length ((view files m).held.current d) ≡ get_or m.sizes d 0 * 512
 held_long files m d = length_joined (get_or m.sizes d 0) (page_now files (fields m) d) (page_long files m d)
+
+pub held_size : (files : ℕ → Bytes) (m : Memory) (d : ℕ) → size_of ((view files m).held.current d) ≡ get_or m.sizes d 0
+held_size files m d = ap (λ (n : ℕ). n / 512) (held_long files m d) ∙ mul-div_cancel (get_or m.sizes d 0) (omega arith)
 
 module _ (m n : Memory) (d p : ℕ) (bytes : Bytes) (done : (files : ℕ → List ℕ) → view files n ≡ written d p bytes (view files m)) where
   none : ℕ → List ℕ

@@ -1,110 +1,107 @@
--- What the savepoints of a stack hold, over the steps of the machine.
-use Rattle.std.proofs.Common.{◌≡◌, ℕ, suc, ◌+◌, ◌-◌, ◌<◌, ◌≤◌, List, [], ◌∷◌, map, length, take, drop, sym, refl, ap, ◌∙◌, subst, arith}
-use Rattle.std.proofs.lemmas.List.{length-map, length-drop, drop-map, drop-drop}
-use Rattle.pager.specs.Machine.{Held, Savepoint, Machine, saving, pass_down, restored, written, pushed, released, back}
+-- The savepoints of a stack, over the steps of the machine.
+use Rattle.std.proofs.Common.{◌≡◌, ℕ, suc, ◌+◌, ◌-◌, ◌<◌, ◌≤◌, ◌||◌, List, [], ◌∷◌, ◌++◌, map, length, take, drop, sym, refl, ap, ◌∙◌, subst, arith, length-append}
+use Rattle.std.proofs.lemmas.List.{drop_at, drop-map, drop-append-le}
+use Rattle.page_map.specs.Sets.{PageSet, including}
+use Rattle.pager.specs.Machine.{Held, Savepoint, Machine, at, no_pages, saving, saved_by, pass_down, restored, pushed, released, back}
 use Rattle.pager.specs.Laws.{Onward, here, write, push, release, step_back, BackLaw, ReleaseLaw}
 
 -- what each savepoint holds, the top one first
 abbrev helds : List Savepoint → List Held
 helds ss = map (λ s. s.held) ss
 
--- what the lowest s of a stack hold
-abbrev lowest : ℕ → List Held → List Held
-lowest s hs = drop (length hs - s) hs
-
-helds_saving : (d p : ℕ) (ss : List Savepoint) → helds (saving d p ss) ≡ helds ss
-unfolding saving
-helds_saving d p [] = refl
-helds_saving d p (s ∷ below) = refl
-
 helds_passed : (removed kept : List Savepoint) → helds (pass_down removed kept) ≡ helds kept
 unfolding pass_down
 helds_passed removed [] = refl
 helds_passed removed (s ∷ below) = refl
 
-pub helds_released : (m : Machine) (s : ℕ) → helds (released s m).savepoints ≡ drop (length m.savepoints + 1 - s) (helds m.savepoints)
+helds_released : (m : Machine) (s : ℕ) → helds (released s m).savepoints ≡ drop (length m.savepoints + 1 - s) (helds m.savepoints)
 helds_released m s =
     let n = length m.savepoints + 1 - s in
     helds_passed (take n m.savepoints) (drop n m.savepoints) ∙ sym (drop-map (λ (s : Savepoint). s.held) n m.savepoints)
 
--- the step back to one of the savepoints, by what the stack holds
-restored_stack : (ss : List Savepoint) (m : Machine) → 0 < length ss → helds (restored ss m).savepoints ≡ helds ss
+-- the top savepoint has saved other pages, and nothing else of the stack changes
+abbrev touched : (Savepoint → ℕ → PageSet) → List Savepoint → List Savepoint
+touched saved [] = []
+touched saved (s ∷ below) = record { held = s.held; saved = saved s } ∷ below
+
+touched_saving : (d p : ℕ) (ss : List Savepoint) → saving d p ss ≡ touched (λ s. at s.saved d (including (s.saved d) p)) ss
+unfolding saving
+touched_saving d p [] = refl
+touched_saving d p (s ∷ below) = refl
+
+touched_passed : (removed kept : List Savepoint) → pass_down removed kept ≡ touched (λ s d p. s.saved d p || saved_by removed d p) kept
+unfolding pass_down
+touched_passed removed [] = refl
+touched_passed removed (s ∷ below) = refl
+
+touched_restored : (ss : List Savepoint) (m : Machine) → 0 < length ss → (restored ss m).savepoints ≡ touched (λ s. no_pages) ss
 unfolding restored
-restored_stack [] m some = absurd (omega arith)
-restored_stack (s ∷ below) m some = refl
+touched_restored [] m some = absurd (omega arith)
+touched_restored (s ∷ below) m some = refl
 
-restored_held : (ss : List Savepoint) (m : Machine) (h : Held) (hs : List Held) → helds ss ≡ h ∷ hs → (restored ss m).held ≡ h
-unfolding restored
-restored_held [] m h hs e = let z : ◌≡◌ {A = ℕ} 0 1 = cc in absurd (omega arith)
-restored_held (s ∷ below) m h hs e = cc
+module _ (m : Machine) where
+  -- on the machine's savepoints, which are as they were, stands one of what it held
+  record Standing (ss : List Savepoint) : Type 0 where
+    above : List Savepoint
+    top : Savepoint
+    is : ss ≡ above ++ top ∷ m.savepoints
+    held : top.held ≡ m.held
 
-helds_back : (m : Machine) (t : ℕ) → 0 < t → t ≤ length m.savepoints → helds (back t m).savepoints ≡ lowest t (helds m.savepoints)
-helds_back m t low high =
-    let ss = m.savepoints in
-    restored_stack (drop (length ss - t) ss) m (simp length-drop (omega arith))
-    ∙ sym (drop-map (λ (s : Savepoint). s.held) (length ss - t) ss)
-    ∙ ap (λ (n : ℕ). drop (n - t) (helds ss)) (sym (length-map ss (λ (s : Savepoint). s.held)))
+  standing_length : (ss : List Savepoint) (old : Standing ss) → length ss ≡ length old.above + suc (length m.savepoints)
+  standing_length ss old = ap length old.is ∙ length-append old.above (old.top ∷ m.savepoints)
 
--- the lowest s of the lowest t
-lowest_lowest : (s n : ℕ) (hs : List Held) → s + n ≤ length hs → lowest s (drop n hs) ≡ lowest s hs
-lowest_lowest s n hs le =
-    drop-drop (length (drop n hs) - s) n hs ∙ ap (λ (k : ℕ). drop k hs) (simp length-drop (omega arith))
+  still_touched : (saved : Savepoint → ℕ → PageSet) (ss : List Savepoint) → Standing ss → Standing (touched saved ss)
+  still_touched saved ss old = by old.above old.is
+    where
+      by : (above : List Savepoint) → ss ≡ above ++ old.top ∷ m.savepoints → Standing (touched saved ss)
+      by [] e = record { above = []; top = record { held = old.top.held; saved = saved old.top }; is = ap (touched saved) e; held = old.held }
+      by (a ∷ above) e = record { above = record { held = a.held; saved = saved a } ∷ above; top = old.top; is = ap (touched saved) e; held = old.held }
 
--- the savepoint s stands, and the lowest s hold this
-record Stands (s : ℕ) (hs : List Held) (m : Machine) : Type 0 where
-  high : s ≤ length (helds m.savepoints)
-  same : lowest s (helds m.savepoints) ≡ hs
+  still_dropped : (k : ℕ) (ss : List Savepoint) → Standing ss → k + suc (length m.savepoints) ≤ length ss → Standing (drop k ss)
+  still_dropped k ss old fits = record {
+    above = drop k old.above;
+    top = old.top;
+    is = ap (drop k) old.is ∙ drop-append-le k old.above (old.top ∷ m.savepoints) (omega (arith, standing_length ss old));
+    held = old.held;
+  }
 
-module _ (s : ℕ) (hs : List Held) (low : 0 < s) where
-  moved : (n : Machine) (ss : List Held) → helds n.savepoints ≡ ss → s ≤ length ss → lowest s ss ≡ hs → Stands s hs n
-  moved n ss e high same = record { high = subst (λ (x : List Held). s ≤ length x) (sym e) high; same = ap (lowest s) e ∙ same }
-
-  stands : {m n : Machine} → Onward s m n → Stands s hs m → Stands s hs n
-  stands here old = old
-  stands (write {n = n} d p bytes steps) old =
-      let was = stands steps old in
-      moved (written d p bytes n) (helds n.savepoints) (helds_saving d p n.savepoints) was.high was.same
-  stands (push {n = n} steps) old =
-      let was = stands steps old in
-      let hs' = helds n.savepoints in
-      let k : length (n.held ∷ hs') - s ≡ suc (length hs' - s) = omega (arith, was.high) in
-      moved (pushed n) (n.held ∷ hs') refl (omega (arith, was.high)) (ap (λ (j : ℕ). drop j (n.held ∷ hs')) k ∙ was.same)
-  stands (release {n = n} t above within steps) old =
-      let was = stands steps old in
-      let hs' = helds n.savepoints in
-      let long = length-map n.savepoints (λ (s : Savepoint). s.held) in
-      moved (released t n) (drop (length n.savepoints + 1 - t) hs') (helds_released n t) (simp length-drop (omega arith))
-      (lowest_lowest s (length n.savepoints + 1 - t) hs' (omega arith) ∙ was.same)
-  stands (step_back {n = n} t above within steps) old =
-      let was = stands steps old in
-      let hs' = helds n.savepoints in
-      let long = length-map n.savepoints (λ (s : Savepoint). s.held) in
-      moved (back t n) (lowest t hs') (helds_back n t (omega arith) within) (simp length-drop (omega arith))
-      (lowest_lowest s (length hs' - t) hs' (omega arith) ∙ was.same)
-
-module _ (m n : Machine) (steps : Onward (suc (length m.savepoints)) (pushed m) n) where
-  at_end : Stands (suc (length m.savepoints)) (helds (pushed m).savepoints) n
-  at_end =
-      let long = length-map m.savepoints (λ (s : Savepoint). s.held) in
-      let none : length (helds (pushed m).savepoints) - suc (length m.savepoints) ≡ 0 = omega arith in
-      stands (suc (length m.savepoints)) (helds (pushed m).savepoints) (omega arith) steps
-      (record { high = omega arith; same = ap (λ (k : ℕ). drop k (helds (pushed m).savepoints)) none })
-
-  tall : suc (length m.savepoints) ≤ length n.savepoints
-  tall = let long = length-map n.savepoints (λ (s : Savepoint). s.held) in omega (arith, at_end.high)
-
-  stack : helds (back (suc (length m.savepoints)) n).savepoints ≡ helds (pushed m).savepoints
-  stack = helds_back n (suc (length m.savepoints)) (omega arith) tall ∙ at_end.same
-
-  restores : (back (suc (length m.savepoints)) n).held ≡ m.held
-  restores =
+  still : {k n : Machine} → Onward (suc (length m.savepoints)) k n → Standing k.savepoints → Standing n.savepoints
+  still here old = old
+  still (write {n = n} d p bytes steps) old =
+      subst Standing (sym (touched_saving d p n.savepoints)) (still_touched _ n.savepoints (still steps old))
+  still (push {n = n} steps) old =
+      let was = still steps old in
+      let new : Savepoint = record { held = n.held; saved = no_pages } in
+      record { above = new ∷ was.above; top = was.top; is = ap (λ (ss : List Savepoint). new ∷ ss) was.is; held = was.held }
+  still (release {n = n} t above within steps) old =
       let ss = n.savepoints in
-      let s = suc (length m.savepoints) in
-      restored_held (drop (length ss - s) ss) n m.held (helds m.savepoints)
-      (sym (drop-map (λ (s : Savepoint). s.held) (length ss - s) ss) ∙ ap (λ (k : ℕ). drop (k - s) (helds ss)) (sym (length-map ss (λ (s : Savepoint). s.held))) ∙ at_end.same)
+      let k = length ss + 1 - t in
+      subst Standing (sym (touched_passed (take k ss) (drop k ss))) (still_touched _ (drop k ss) (still_dropped k ss (still steps old) (omega arith)))
+  still (step_back {n = n} t above within steps) old =
+      let ss = n.savepoints in
+      let k = length ss - t in
+      let kept = still_dropped k ss (still steps old) (omega arith) in
+      subst Standing (sym (touched_restored (drop k ss) n (omega (arith, standing_length (drop k ss) kept)))) (still_touched _ (drop k ss) kept)
+
+  module _ (n : Machine) (steps : Onward (suc (length m.savepoints)) (pushed m) n) where
+    at_end : Standing n.savepoints
+    at_end = still steps (record { above = []; top = record { held = m.held; saved = no_pages }; is = refl; held = refl })
+
+    -- the step back is to the machine as it was once the savepoint was made
+    back_whole : back (suc (length m.savepoints)) n ≡ pushed m
+    unfolding restored
+    back_whole =
+        let s = suc (length m.savepoints) in
+        let above : length n.savepoints - s ≡ length at_end.above = omega (arith, standing_length n.savepoints at_end) in
+        ap (λ (k : ℕ). restored (drop k n.savepoints) n) above
+        ∙ ap (λ (ss : List Savepoint). restored ss n) (ap (drop (length at_end.above)) at_end.is ∙ drop_at at_end.above (at_end.top ∷ m.savepoints) (length at_end.above) refl)
+        ∙ ap (λ (h : Held). record { held = h; savepoints = record { held = h; saved = no_pages } ∷ m.savepoints }) at_end.held
 
 pub back_law : BackLaw
-back_law = record { restores = restores; stack = stack }
+back_law = record {
+  restores = λ m n steps. ap (λ (x : Machine). x.held) (back_whole m n steps);
+  stack = λ m n steps. ap (λ (x : Machine). x.savepoints) (back_whole m n steps);
+}
 
 pub release_law : ReleaseLaw
 release_law = record { keeps = λ m s. refl; below = helds_released }

@@ -1,8 +1,8 @@
 -- The changed pages of a database, as a walk over its map gives them.
 use Rattle.std.proofs.Common.{◌≡◌, ℕ, suc, zero, ◌%◌, ◌<◌, ◌≤◌, true, false, eqb, ⊎_elim, List, [], length, get_or, is_some, Some, None, Option, Bor, All, refl, sym, ap, ◌∙◌, arith}
 use Rattle.std.specs.Option.{option_map, unwrap_or}
-use Rattle.std.proofs.lemmas.List.{get_or_past, get_or_default}
-use Rattle.std.proofs.lemmas.Bool.{cases_lt, both_ways}
+use Rattle.std.proofs.lemmas.List.{get_or_default}
+use Rattle.std.proofs.lemmas.Bool.{cases_lt}
 use Rattle.page_map.specs.declared.PageMap.{PageMap}
 use Rattle.page_map.specs.Words.{pages_of, digit}
 use Rattle.page_map.specs.Listed.{above}
@@ -13,8 +13,8 @@ use Rattle.pager.specs.declared.memory.Memory.{Memory}
 use Rattle.pager.specs.Changed.{look}
 use Rattle.pager.specs.Sound.{map_of}
 use Rattle.pager.specs.View.{fields}
-use Rattle.pager.proofs.Keeps.{linked}
 use Rattle.pager.proofs.Counted.{changed_few}
+use Rattle.pager.proofs.Members.{unchanged, changed_is}
 
 -- where there are no words, no page is in
 wordless : (q : ℕ) → pages_of [] q ≡ false
@@ -37,11 +37,10 @@ pub pages_looked_up :
 unfolding map_of no_words
 pages_looked_up maps d o at = λ i q. (looked_up o q ∙ ap (λ (m : PageMap). pages_of m.words q) (at no_words)) i
 
-module _ (m : Memory) (d : ℕ) (four : length m.maps ≡ 4) where
-  -- past the maps there is no page
-  none_past : 4 ≤ d → (q : ℕ) → map_of m.maps d q ≡ false
-  unfolding map_of no_words
-  none_past far q = ap (λ (x : PageMap). pages_of x.words q) (get_or_past m.maps d no_words (omega arith)) ∙ wordless q
+module _ (m : Memory) (d : ℕ) where
+  -- of a database that is not there the walk gives no page
+  pub walk_none : m.count ≤ d → above (map_of m.maps d) 0 4096 ≡ []
+  walk_none past = above_none (map_of m.maps d) 0 4096 (λ q _. unchanged m d past q)
 
   pub walk_few : length (above (map_of m.maps d) 0 4096) ≤ 32
   walk_few = ⊎_elim near far (cases_lt d 4)
@@ -50,20 +49,10 @@ module _ (m : Memory) (d : ℕ) (four : length m.maps ≡ 4) where
       near lt = omega (arith, above_length (map_of m.maps d) 0 4096, changed_few m d lt)
 
       far : 4 ≤ d → length (above (map_of m.maps d) 0 4096) ≤ 32
-      far past = omega (arith, ap length (above_none (map_of m.maps d) 0 4096 (λ q _. none_past past q)))
+      far past = omega (arith, ap length (walk_none (omega (arith, m.few, past))))
 
   -- each page of the walk is in the store
   pub walk_held : All (λ p. is_some (look (fields m).changed d p) ≡ true) (above (map_of m.maps d) 0 4096)
-  walk_held i x lt = ⊎_elim near far (cases_lt d 4)
-    where
-      page : ℕ
-      page = get_or (above (map_of m.maps d) 0 4096) i x
-
-      member : map_of m.maps d page ≡ true
-      member = ap (map_of m.maps d) (get_or_default (above (map_of m.maps d) 0 4096) i x 0 lt) ∙ (above_within (map_of m.maps d) 0 4096 i lt).member
-
-      near : d < 4 → is_some (look (fields m).changed d page) ≡ true
-      near low = sym (linked m d page low) ∙ member
-
-      far : 4 ≤ d → is_some (look (fields m).changed d page) ≡ true
-      far past = absurd (both_ways _ (none_past past page) member)
+  walk_held i x lt =
+      sym (changed_is m d (get_or (above (map_of m.maps d) 0 4096) i x))
+      ∙ ap (map_of m.maps d) (get_or_default (above (map_of m.maps d) 0 4096) i x 0 lt) ∙ (above_within (map_of m.maps d) 0 4096 i lt).member

@@ -51,6 +51,9 @@ pub record Examples : Type 0 where
   pub back_changed : map ((back 1 grown).held.changed 0) (1 ∷ 2 ∷ []) ≡ false ∷ false ∷ []
   -- its savepoint stands, and has saved nothing
   pub back_saved : who_saved 3 (back 2 deeper) ≡ false ∷ false ∷ []
+  -- over nested savepoints, the step back to each one undoes the growth since it was made
+  pub back_upper : (back 2 deeper).held.current 0 ≡ page 8 ++ page 9
+  pub back_lower : (back 1 deeper).held.current 0 ≡ page 7
   -- a release keeps what is held now, and what was saved passes to the savepoint below
   pub release_held : (released 1 grown).held.current 0 ≡ page 8 ++ page 9
   pub release_saved : who_saved 3 (released 2 deeper) ≡ true ∷ []

@@ -16,9 +16,7 @@ pub data Onward (s : ℕ) : Machine → Machine → Type 0 where
 -- the savepoints as they were then, that one on top
 pub record BackLaw : Type 0 where
   pub restores : (m n : Machine) → Onward (suc (length m.savepoints)) (pushed m) n → (back (suc (length m.savepoints)) n).held ≡ m.held
-  pub stack :
-      (m n : Machine) → Onward (suc (length m.savepoints)) (pushed m) n →
-      map (λ s. s.held) (back (suc (length m.savepoints)) n).savepoints ≡ map (λ s. s.held) (pushed m).savepoints
+  pub stack : (m n : Machine) → Onward (suc (length m.savepoints)) (pushed m) n → (back (suc (length m.savepoints)) n).savepoints ≡ (pushed m).savepoints
 
 -- a release changes nothing that is held now, and nothing that the savepoints below hold
 pub record ReleaseLaw : Type 0 where

@@ -84,7 +84,7 @@ unfoldable pub restored : List Savepoint → Machine → Machine
 restored [] m = m
 restored (s ∷ below) m = record { held = s.held; savepoints = record { held = s.held; saved = no_pages } ∷ below }
 
--- the step back to savepoint s: those above it are removed
+-- the step back to savepoint s: those above it are removed; s is one that stands, 1 to how many there are
 abbrev pub back : ℕ → Machine → Machine
 back s m = restored (drop (length m.savepoints - s) m.savepoints) m
 

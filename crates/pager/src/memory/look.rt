@@ -1,9 +1,10 @@
 // Making a memory, clearing it, and looking at it.
-ghost use Rattle.std.specs.Prelude.{◌≡◌, ℕ, ◌*◌, ◌<◌, ◌≤◌, min, true, List, [], All, length, is_some, MatchOption, MatchResult, slice_index};
+ghost use Rattle.std.specs.Prelude.{◌≡◌, ℕ, ◌-◌, ◌*◌, ◌<◌, ◌≤◌, min, true, List, [], All, length, is_some, IfSome, MatchOption, MatchResult, slice_index};
 ghost use Rattle.std.specs.Option.{option_map};
+ghost use Rattle.card.specs.Calls.{part};
 ghost use Rattle.pager.specs.Changed.{look};
 ghost use Rattle.pager.specs.Examples.{Examples};
-ghost use Rattle.pager.specs.Machine.{cleared, saved_in_all};
+ghost use Rattle.pager.specs.Machine.{cleared, size_of, saved_in_all};
 ghost use Rattle.page_map.specs.Listed.{above, EachOnce};
 ghost use Rattle.page_map.specs.Walks.{left};
 ghost use Rattle.page_map.specs.Sets.{counted, NoneAbove, NextAbove, VisitLaw};
@@ -53,6 +54,8 @@ impl Memory {
     pub fn get(&self, database: usize, page: u32) -> Option<&[u8; PAGE]>
         ensures is { option_map (λ x. x.now) result ≡ look (fields self.now).changed database page }
         ensures changed { database < 4 → map_of self.now.maps database page ≡ is_some (option_map (λ x. x.now) result) }
+        ensures view { (files : ℕ → List ℕ) → IfSome result (λ x. x.now ≡ part ((view files self.now).held.current database) ((page - 1) * 512) 512) }
+        ensures absent { self.now.count ≤ database → result ≡ None }
     {
         self.changed.get(database, page)
     }
@@ -69,7 +72,8 @@ impl Memory {
 
     /// How many pages a database has.
     pub fn size(&self, database: usize) -> Result<u32, Refusal>
-        ensures { OfKnown self.now database result (λ n. n ≡ slice_index self.now.sizes database) }
+        ensures is { OfKnown self.now database result (λ n. n ≡ slice_index self.now.sizes database) }
+        ensures view { (files : ℕ → List ℕ) → OfKnown self.now database result (λ n. n ≡ size_of ((view files self.now).held.current database)) }
     {
         self.known(database)?;
         Ok(self.sizes[database])
@@ -106,6 +110,7 @@ impl Memory {
         ensures few { length (left result) ≤ 32 }
         ensures held { All (λ p. is_some (look (fields self.now).changed database p) ≡ true) (left result) }
         ensures once { EachOnce (map_of self.now.maps database) (left result) }
+        ensures absent { self.now.count ≤ database → left result ≡ [] }
     {
         Pages::new(self.maps.get(database))
     }
@@ -119,7 +124,8 @@ impl Memory {
 
     /// How many savepoints stand.
     pub fn savepoints(&self) -> usize
-        ensures { result ≡ length self.now.levels.items }
+        ensures is { result ≡ length self.now.levels.items }
+        ensures view { (files : ℕ → List ℕ) → result ≡ length (view files self.now).savepoints }
     {
         self.levels.len()
     }
