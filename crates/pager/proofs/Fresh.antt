@@ -57,6 +57,7 @@ module _ (maps : List PageMap) (empty : (d p : ℕ) → map_of maps d p ≡ fals
     all = sym (total_none (map_of maps) 4 empty);
     within = λ d p is. absurd (both_ways _ (empty d p) is);
     was_within = λ k some le. absurd (omega (arith, some, le));
+    since = λ k some le. absurd (omega (arith, some, le));
     below = λ d p. refl;
     placed = All-nil (Placed count);
     saved_all = sym (total_empty 0);

@@ -26,6 +26,7 @@ use Rattle.pager.specs.Sound.{Fields, Sound, map_of, sizes_at, changed_at, Withi
 use Rattle.pager.specs.View.{fields, page_allowed, to_save, write_refusal, was_of, saved_first}
 use Rattle.pager.proofs.Saves.{from_end}
 use Rattle.pager.proofs.SavedRows.{added_all, added_placed}
+use Rattle.pager.proofs.Since.{since_written}
 use Rattle.pager.proofs.Views.{Wrote, changed_kept}
 use Rattle.page_map.proofs.Totals.{total_with}
 
@@ -135,6 +136,9 @@ sound_written count f g d p bytes wrote there four is high whole long grown leve
   all = all;
   within = within;
   was_within = was_within;
+  since = λ k some le.
+      let at : k ≤ length f.level_sizes = omega (arith, le, ap length wrote.level_sizes) in
+      since_written f g d p bytes wrote high k some at (sound.since k some at);
   below = λ e q. below e q wrote.saved;
   placed = subst (All (Placed count)) (sym once) (added_placed count f.saved row sound.placed (there, is));
   saved_all = ap length once ∙ added_all (length f.level_sizes) f.saved row (omega arith) (inside, is) sound.saved_all ∙ sym (ap₂ saved_total (ap length wrote.level_sizes) once);

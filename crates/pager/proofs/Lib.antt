@@ -6,6 +6,7 @@ mod Views
 mod SavedRows
 mod Keeps
 mod Passes
+mod Since
 mod Stacks
 mod Fresh
 pub mod Counted

@@ -9,11 +9,12 @@ use Rattle.std.proofs.lemmas.List.Elements.{All-nil}
 use Rattle.card.specs.Meaning.{Bytes}
 use Rattle.pager.specs.declared.saved_page.Was.{Was}
 use Rattle.pager.specs.Saved.{has, has_from, saved_total, Placed, first, was_changed, gathered}
-use Rattle.pager.specs.Sound.{Fields, Sound, map_of, changed_at, Within}
+use Rattle.pager.specs.Sound.{Fields, Since, Sound, map_of, changed_at, Within}
 use Rattle.pager.specs.Machine.{saved_by, pass_down, no_pages}
 use Rattle.pager.specs.View.{file_page, joined, was_page, page_now, held_now, held_at, stack}
 use Rattle.pager.proofs.Pages.{joined_same}
 use Rattle.pager.proofs.SavedRows.{total_next, total_empty, gathered_all, gathered_placed}
+use Rattle.pager.proofs.Since.{since_pushed, since_kept}
 use Rattle.pager.proofs.Passes.{gathered_below, gathered_top, gathered_first, gathered_above, from_first, from_split}
 
 module _ (files : ℕ → Bytes) (f : Fields) where
@@ -83,6 +84,7 @@ module _ (files : ℕ → Bytes) (f : Fields) where
       all = sound.all;
       within = sound.within;
       was_within = was_within;
+      since = since;
       below = subst (λ (n : ℕ). (d p : ℕ) → has_from (suc n) f.saved d p ≡ false) (sym long) none_two_above;
       placed = sound.placed;
       saved_all = sound.saved_all ∙ ap (λ (n : ℕ). saved_total n f.saved) high ∙ sym (ap (λ (n : ℕ). saved_total n f.saved) long ∙ total_next levels f.saved (λ d p i. none_saved i d p));
@@ -103,6 +105,18 @@ module _ (files : ℕ → Bytes) (f : Fields) where
                 λ d p in-it.
                 let was = sound.within d p (sym (new_changed d p) ∙ ap (λ (n : ℕ). changed_at f n d p) (sym here) ∙ in-it) in
                 (was.0, was.1, subst (λ (l : List ℕ). p ≤ get_or l d 0) (sym (ap (λ (j : ℕ). get_or (f.level_sizes ++ f.sizes ∷ []) j []) i ∙ get_or-append_seam f.level_sizes f.sizes [] [])) was.2)
+
+        since : (k : ℕ) → 1 ≤ k → k ≤ length (f.level_sizes ++ f.sizes ∷ []) → Since with_sizes k
+        since k some le = by (cases_lt levels k)
+          where
+            by : (levels < k) ⊎ (k ≤ levels) → Since with_sizes k
+            by (inr old) =
+                since_kept f with_sizes k (λ d p. refl) (get_or_append_left f.level_sizes (f.sizes ∷ []) [] (k - 1) (omega arith)) refl (sound.since k some (omega arith))
+            by (inl new) =
+                let here : k ≡ suc levels = omega (arith, new, le, long) in
+                let i : k - 1 ≡ length f.level_sizes = omega (arith, here, high) in
+                since_pushed f with_sizes k refl (ap (λ (j : ℕ). get_or (f.level_sizes ++ f.sizes ∷ []) j []) i ∙ get_or-append_seam f.level_sizes f.sizes [] []) refl
+                (subst (λ (n : ℕ). (d p : ℕ) → has_from n f.saved d p ≡ false) (sym here) below)
 
   -- the lowest k of a stack, and what those above them saved
   drop_stack : (j k l : ℕ) → l ≡ j + k → drop j (stack files f l) ≡ stack files f k
@@ -194,6 +208,7 @@ module _ (files : ℕ → Bytes) (f : Fields) where
       all = sound.all;
       within = sound.within;
       was_within = was_within;
+      since = since;
       below = subst (λ (n : ℕ). (d p : ℕ) → has_from (suc n) (gathered s [] f.saved) d p ≡ false) (sym long) none_left;
       placed = gathered_placed count s [] f.saved (All-nil (Placed count)) sound.placed;
       saved_all = gathered_all s [] f.saved placed (sym (total_empty (s - 1))) ∙ ap (λ (n : ℕ). saved_total n (gathered s [] f.saved)) (sym long);
@@ -210,3 +225,8 @@ module _ (files : ℕ → Bytes) (f : Fields) where
             let lower : k ≤ s - 1 = omega (arith, le, long) in
             let was = sound.was_within k some (omega (arith, lower, all, high)) d p (sym (ap (λ (o : Option Was). was_changed o (map_of f.maps d p)) (same_first k d p some lower)) ∙ in-it) in
             (was.0, was.1, subst (λ (l : List ℕ). p ≤ get_or l d 0) (sym (get_or-take (s - 1) f.level_sizes (k - 1) [] (omega (arith, some, lower)))) was.2)
+
+        since : (k : ℕ) → 1 ≤ k → k ≤ length (take (s - 1) f.level_sizes) → Since passed_fields k
+        since k some le =
+            let lower : k ≤ s - 1 = omega (arith, le, long) in
+            since_kept f passed_fields k (λ d p. same_first k d p some lower) (get_or-take (s - 1) f.level_sizes (k - 1) [] (omega (arith, some, lower))) refl (sound.since k some (omega (arith, lower, all, high)))

@@ -1,8 +1,9 @@
 -- What the fields of a transaction's memory keep among themselves.
-use Rattle.std.specs.Prelude.{◌≡◌, ℕ, suc, ◌-◌, ◌<◌, ◌≤◌, true, false, List, [], All, length, is_some, slice_index, slice_index_or}
+use Rattle.std.specs.Prelude.{◌≡◌, ℕ, suc, ◌-◌, ◌<◌, ◌≤◌, true, false, List, [], All, length, is_some, Some, slice_index, slice_index_or}
 use Rattle.page_map.specs.declared.PageMap.{PageMap}
 use Rattle.pager.specs.declared.changed_page.ChangedPage.{ChangedPage}
 use Rattle.pager.specs.declared.saved_page.SavedPage.{SavedPage}
+use Rattle.pager.specs.declared.saved_page.Was.TheVariants.{Unchanged, Absent}
 use Rattle.page_map.specs.Sets.{PageSet, total}
 use Rattle.page_map.specs.Words.{pages_of}
 use Rattle.pager.specs.Changed.{look}
@@ -32,6 +33,14 @@ changed_at f k d p = was_changed (first k f.saved d p) (map_of f.maps d p)
 abbrev pub Within : ℕ → List ℕ → (ℕ → PageSet) → Type 0
 Within count sizes pages = (d p : ℕ) → pages d p ≡ true → (d < count) × (1 ≤ p) × (p ≤ slice_index sizes d)
 
+-- the savepoint k and the pages that came after it: no database was larger at its making, and each page past its size
+-- was saved since; a page is saved as not there yet just if it lies past the size, and as unchanged only if it does not
+pub record Since (f : Fields) (k : ℕ) : Type 0 where
+  pub size : (d : ℕ) → slice_index (sizes_at f k) d ≤ slice_index f.sizes d
+  pub added : (d p : ℕ) → slice_index (sizes_at f k) d < p → p ≤ slice_index f.sizes d → is_some (first k f.saved d p) ≡ true
+  pub absent : (d p : ℕ) → first k f.saved d p ≡ Some Absent → slice_index (sizes_at f k) d < p
+  pub there : (d p : ℕ) → first k f.saved d p ≡ Some Unchanged → p ≤ slice_index (sizes_at f k) d
+
 pub record Sound (count : ℕ) (f : Fields) : Type 0 where
   -- the pages in the maps are those in the store
   pub link : (d p : ℕ) → d < 4 → map_of f.maps d p ≡ is_some (look f.changed d p)
@@ -40,6 +49,8 @@ pub record Sound (count : ℕ) (f : Fields) : Type 0 where
   -- a changed page is one of its database, now and at the making of each savepoint that stands
   pub within : Within count f.sizes (map_of f.maps)
   pub was_within : (k : ℕ) → 1 ≤ k → k ≤ length f.level_sizes → Within count (sizes_at f k) (changed_at f k)
+  -- each savepoint that stands has saved what came after it
+  pub since : (k : ℕ) → 1 ≤ k → k ≤ length f.level_sizes → Since f k
   -- no page is saved by a savepoint that does not stand
   pub below : (d p : ℕ) → has_from (suc (length f.level_sizes)) f.saved d p ≡ false
   -- each saved page is of a database that there is, and one that a database can have
