@@ -1,7 +1,8 @@
 -- The store of saved pages, as a list in the order of saving: which savepoint saved which page, and
 -- what a page was when a savepoint was made.
-use Rattle.std.specs.Prelude.{◌≡◌, ℕ, zero, suc, ◌+◌, ◌-◌, ◌<◌, min, Bool, true, false, cond, ◌&&◌, List, [], ◌∷◌, ◌++◌, Some, None, Option, ◌==◌, nat_le}
+use Rattle.std.specs.Prelude.{All, length, ◌≡◌, ℕ, zero, suc, ◌+◌, ◌-◌, ◌<◌, min, Bool, true, false, cond, ◌&&◌, List, [], ◌∷◌, ◌++◌, Some, None, Option, ◌==◌, nat_le}
 use Rattle.std.specs.List.{list_any}
+use Rattle.card.specs.Meaning.{Bytes}
 use Rattle.page_map.specs.Sets.{is_page, total}
 use Rattle.pager.specs.declared.saved_page.SavedPage.{SavedPage}
 use Rattle.pager.specs.declared.saved_page.Was.{Was}
@@ -39,6 +40,10 @@ was_changed None now-changed = now-changed
 was_changed (Some (Changed bytes)) now-changed = true
 was_changed (Some Unchanged) now-changed = false
 was_changed (Some Absent) now-changed = false
+
+-- what a page was changed to has 512 bytes
+abbrev pub WholeRows : List SavedPage → Type 0
+WholeRows = All (λ row. (bytes : Bytes) → row.was ≡ Changed bytes → length bytes ≡ 512)
 
 -- a row as it is once savepoint s and those above are removed: it belongs to the one below
 abbrev pub passed : ℕ → SavedPage → SavedPage

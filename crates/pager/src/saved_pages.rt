@@ -1,6 +1,6 @@
 // The store of saved pages: 32 in all, for all savepoints together.
 ghost use Rattle.std.specs.Prelude.{◌≡◌, ◌+◌, ◌≤◌, not, ◌&&◌, [], length, ◌==◌, nat_le};
-ghost use Rattle.pager.specs.Saved.{has, passed as passed_down, added, gathered};
+ghost use Rattle.pager.specs.Saved.{has, passed as passed_down, added, gathered, WholeRows};
 
 use crate::saved_page::SavedPage;
 use few::Few;
@@ -27,6 +27,8 @@ pub struct SavedPages {
     // the list's own bound, which a clause on its items does not show: without it the room for a row in
     // `Memory::write` was not proved (tried)
     ghost few: { length rows.items ≤ 32 },
+    // what the type of a row says of its bytes, which rows of a list no longer show
+    ghost whole: { WholeRows rows.items },
 }
 
 impl SavedPages {
