@@ -141,23 +141,36 @@ fn sizes_grow_over_nested_savepoints_and_shrink_when_cleared(rt: HostRuntime) {
     let mut m = Memory::new(4, start);
     check_savepoint(&rt, &mut m, 1, &[(0, 4), (1, 1), (2, 4096), (3, 2)], 4);
     check_savepoint(&rt, &mut m, 2, &[(0, 5), (1, 2), (3, 3)], 7);
+    check_savepoint(&rt, &mut m, 3, &[(0, 6)], 8);
     assert_eq!(rt;
-        (m.release(2), m.saved_count(), m.sizes()),
-        (Ok(()), 7, [5, 2, 4096, 3])
+        (m.release(3), m.savepoints(), m.saved_count(), m.sizes()),
+        (Ok(()), 2, 8, [6, 2, 4096, 3])
     );
-    // the only call that makes a database smaller: none steps back to a savepoint
+    // the only call that makes a database smaller: none steps back to a savepoint; two stand here
     m.clear(start);
     assert_eq!(rt;
-        (
-            m.sizes(),
-            m.savepoints(),
-            m.saved_count(),
-            m.changed_count(0)
-        ),
-        (start, 0, 0, Ok(0))
+        (m.count(), m.sizes(), m.savepoints(), m.saved_count()),
+        (4, start, 0, 0)
+    );
+    for d in 0..4 {
+        assert_eq!(rt; m.changed_count(d), Ok(0), "{d}");
+    }
+    assert_eq!(rt;
+        [m.release(2), m.release(1), m.write(0, 5, &PAGE)],
+        [
+            Err(Refusal::NoSavepoint),
+            Err(Refusal::NoSavepoint),
+            Err(Refusal::Page)
+        ]
+    );
+    // savepoints are numbered from 1 again, and a page that was saved before is saved anew
+    check_savepoint(&rt, &mut m, 1, &[(0, 4)], 1);
+    assert_eq!(rt;
+        [m.write(0, 6, &PAGE), m.write(0, 5, &PAGE)],
+        [Err(Refusal::Page), Ok(())]
     );
     assert_eq!(rt;
-        [m.write(0, 5, &PAGE), m.write(0, 4, &PAGE)],
-        [Err(Refusal::Page), Ok(())]
+        (m.sizes(), m.savepoints(), m.saved_count()),
+        ([5, 0, 4095, 1], 1, 2)
     );
 }
