@@ -9,6 +9,7 @@ use Rattle.refusal.specs.declared.refusals.Refusal.TheVariants.{Card}
 use Rattle.steps.specs.Tasks.{Went}
 use Rattle.survey.specs.declared.report.Found.{Found}
 use Rattle.recovery.specs.declared.report.Recovery.{Recovery}
+use Rattle.survey.specs.Asks.{AskedFor, Asks}
 use Rattle.survey.specs.Finds.{Finds}
 use Rattle.set_files.specs.Looked.{Looked, dropped}
 use Rattle.recovery.specs.Measured.{Measured, measure_tasks}
@@ -49,5 +50,6 @@ module _ {C : Type 0} (m : Meaning C) (file : ℕ → Name) (n : ℕ) where
     pub found : Result (List Found) Refusal
     pub switched : Switched m c start
     pub looked : Looked m R1 file n start (dropped found) then
+    pub asked : AskedFor m (Asks (m.holds start) file n) start found then
     pub finds : Finds (m.holds start) file n found
     pub after : AfterSurvey then found r c'

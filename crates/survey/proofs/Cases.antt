@@ -10,6 +10,8 @@ use Rattle.survey.specs.declared.report.Found.{Found}
 use Rattle.survey.specs.declared.report.Found.TheVariants.{None as FoundNone, Spent as FoundSpent}
 use Rattle.survey.specs.Seen.{Seen, none, spent, hot, SeenAs, AllSeen, found_at}
 use Rattle.survey.specs.Finds.{AllPresent, HotAt, Good, FirstAbsent}
+use Rattle.survey.proofs.Asking.{each_of, asks_nothing, asks_first_absent, asks_joined}
+use Rattle.survey.proofs.One.{asks_one}
 use Rattle.survey.specs.Examples.{Examples, file, bare, created, first_only, journal, joined, orphaned}
 
 -- the journal is lawful
@@ -56,13 +58,6 @@ orphan_spent = (full journal, refl, inr (journal, lawful, refl, (file 8, refl, r
 
 orphan_not_hot : SeenAs orphaned file 0 (hot journal) → ⊥
 orphan_not_hot h = h.present (file 8) refl refl
-
--- what is true of each of three databases
-each_of : (P : ℕ → Type 0) → P 0 → P 1 → P 2 → (d : ℕ) → d < 3 → P d
-each_of P a b c zero lt = a
-each_of P a b c (suc zero) lt = b
-each_of P a b c (suc (suc zero)) lt = c
-each_of P a b c (suc (suc (suc d))) lt = absurd (omega arith)
 
 -- three databases with no hot journal
 good :
@@ -131,4 +126,8 @@ examples =
       first_absent = first_absent;
       not_later = not_later;
       not_good = not_good;
+      asks_nothing = asks_nothing;
+      asks_first_absent = asks_first_absent;
+      asks_joined = asks_joined lawful hot_joined;
+      asks_one = asks_one;
     }

@@ -1,4 +1,9 @@
 mod Searched
 mod Surveyed
 mod Listings
+mod Asking
 mod Cases
+mod Asked
+mod Judging
+mod Stages
+mod One

@@ -1,13 +1,20 @@
 -- What is found in a few small sets of files, for readers of the definitions.
-use Rattle.std.specs.Prelude.{ℕ, List, [], ◌∷◌, replicate, Some, None, Option, Ok, Err, slice_index_or}
+use Rattle.std.specs.Prelude.{◌≡◌, ℕ, List, [], ◌∷◌, ◌++◌, replicate, Some, None, Option, Ok, Err, slice_index_or}
 use Rattle.card.specs.Meaning.{Bytes, Name}
 use Rattle.journal.specs.Format.{Journal, full}
+use Rattle.card.specs.Calls.{read}
+use Rattle.journal.specs.OnCard.{judge_acts}
+use Rattle.names.specs.declared.names.Names.{Names}
+use Rattle.names.specs.Files.{how_many, file_of}
+use Rattle.steps.specs.Tasks.{Task, task, tasks, at}
+use Rattle.refusal.specs.declared.step.Step.TheVariants.{R1}
 use Rattle.refusal.specs.declared.refusals.Refusal.TheVariants.{Database}
 use Rattle.survey.specs.declared.report.Found.{Found}
 use Rattle.survey.specs.declared.report.Found.TheVariants.{None as FoundNone, Spent as FoundSpent}
 use Rattle.set_files.specs.Files.{Holds}
 use Rattle.survey.specs.Seen.{none, spent, hot, SeenAs}
 use Rattle.survey.specs.Finds.{Finds}
+use Rattle.survey.specs.Asks.{length_look, Asks}
 
 -- the name of the file k is the one byte k
 abbrev pub file : ℕ → Name
@@ -46,6 +53,15 @@ joined = holding (empty ∷ None ∷ None ∷ None ∷ Some (full journal) ∷ N
 abbrev pub orphaned : Holds
 orphaned = holding (empty ∷ None ∷ None ∷ None ∷ Some (full journal) ∷ [])
 
+-- the looks at a journal of the number k, by what the file is
+abbrev pub judged : ℕ → Option Bytes → List Task
+judged k f = tasks (at R1 k) (judge_acts (file k) f)
+
+-- the looks at that database, its journal, and the super-journal: as the journal's, and then as the set's
+abbrev pub joined_looks : List Task
+joined_looks =
+    length_look 0 (file 0) ++ (judged 4 (Some (full journal)) ++ (length_look 8 (file 8) ++ (length_look 8 (file 8) ++ (task (at R1 8) (file 8) (read 0 0) ∷ []))))
+
 pub record Examples : Type 0 where
   -- an absent journal is none, and an empty one is spent
   pub absent : SeenAs created file 0 none
@@ -62,3 +78,13 @@ pub record Examples : Type 0 where
   pub first_absent : Finds first_only file 3 (Err (Database 1))
   pub not_later : Finds first_only file 3 (Err (Database 2)) → ⊥
   pub not_good : (found : List Found) → Finds first_only file 3 (Ok found) → ⊥
+  -- the databases are asked for, and then the journals; a super-journal that no hot journal names is not
+  pub asks_nothing :
+      Asks bare file 3
+      (length_look 0 (file 0) ++ (length_look 1 (file 1) ++ (length_look 2 (file 2) ++ (judged 4 None ++ (judged 5 None ++ judged 6 None)))))
+  -- after the first absent database no file is looked at
+  pub asks_first_absent : Asks first_only file 3 (length_look 0 (file 0) ++ length_look 1 (file 1))
+  -- a sound journal's super-journal is asked for by the journal, and once more as the set's; it is read, and lists nothing
+  pub asks_joined : Asks joined file 1 joined_looks
+  -- the files ask for one list of looks
+  pub asks_one : (s : Names) (files : Holds) (a b : List Task) → Asks files (file_of s) (how_many s) a → Asks files (file_of s) (how_many s) b → a ≡ b

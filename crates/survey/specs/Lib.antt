@@ -2,4 +2,5 @@ pub mod Seen
 pub mod Finds
 pub mod Linked
 pub mod Tells
+pub mod Asks
 pub mod Examples

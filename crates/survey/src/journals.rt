@@ -3,6 +3,7 @@ ghost use Rattle.std.specs.Prelude.{◌≡◌, ℕ, ◌<◌, Some, MatchOption, 
 ghost use Rattle.refusal.specs.declared.step.Step.TheVariants.{R1};
 ghost use Rattle.names.specs.Files.{file_of, how_many};
 ghost use Rattle.set_files.specs.Looked.{OnlyLooked};
+ghost use Rattle.survey.specs.Asks.{AskedFor, AsksNamed, AsksJournal, AsksJournals};
 ghost use Rattle.survey.specs.Linked.{LinkAs, look_at, link_of};
 ghost use Rattle.survey.specs.Tells.{TellsNamed, TellsJournal, TellsJournals};
 
@@ -32,6 +33,7 @@ fn look_at_super<C: Card>(
     name: &[u8],
 ) -> Result<Look, Refusal>
     ensures looked { OnlyLooked C.Card.meaning R1 names.now card.old result card.new }
+    ensures asked { AskedFor C.Card.meaning (AsksNamed (file_of names.now) (how_many names.now) name.now) card.old result card.new }
     ensures told { TellsNamed C.Card.meaning names.now card.old records name.now result }
 {
     match length_named(card, names, Step::R1, name)? {
@@ -55,6 +57,7 @@ fn judge_journal<C: Card>(
 ) -> Result<Look, Refusal>
     requires { d < how_many names.now }
     ensures looked { OnlyLooked C.Card.meaning R1 names.now card.old result card.new }
+    ensures asked { AskedFor C.Card.meaning (AsksJournal (C.Card.meaning.holds card.old) (file_of names.now) (how_many names.now) d) card.old result card.new }
     ensures told { TellsJournal C.Card.meaning names.now card.old d result }
 {
     let file = journal_of(d);
@@ -81,6 +84,7 @@ pub(crate) fn judge_journals<C: Card>(
     buffer: &mut [u8; JOURNAL_LIMIT],
 ) -> Result<[Look; DATABASES], Refusal>
     ensures looked { OnlyLooked C.Card.meaning R1 names.now card.old result card.new }
+    ensures asked { AskedFor C.Card.meaning (AsksJournals (C.Card.meaning.holds card.old) (file_of names.now) (how_many names.now)) card.old result card.new }
     ensures told { TellsJournals C.Card.meaning names.now card.old result }
 {
     let mut looks = [Look::Absent; DATABASES];

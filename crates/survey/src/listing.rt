@@ -2,9 +2,11 @@
 ghost use Rattle.std.specs.Prelude.{◌≡◌, ℕ, ◌<◌, List, length as count_of, IfOk, Some, MatchOption};
 ghost use Rattle.super_journal.specs.Written.{texts};
 ghost use Rattle.refusal.specs.declared.step.Step.TheVariants.{R1};
+ghost use Rattle.steps.specs.Tasks.{Went};
 ghost use Rattle.names.specs.Files.{file_of, how_many, super_file};
 ghost use Rattle.set_files.specs.Files.{Present};
 ghost use Rattle.set_files.specs.Looked.{Looked, OnlyLooked, ended};
+ghost use Rattle.survey.specs.Asks.{AskedFor, AsksListed, AsksNames, AsksList, AsksSuper, super_looks};
 ghost use Rattle.survey.specs.Tells.{TellsListed, TellsNames, TellsList, TellsSuper};
 
 use card::Card;
@@ -24,6 +26,7 @@ const NO_LIST: Refusal = Refusal::Damaged {
 /// Tests that a listed file is a journal of the set, or absent.
 fn check_listed<C: Card>(card: &mut C, names: &Names, name: &[u8]) -> Result<(), Refusal>
     ensures looked { OnlyLooked C.Card.meaning R1 names.now card.old result card.new }
+    ensures asked { AskedFor C.Card.meaning (AsksListed (C.Card.meaning.holds card.old) (file_of names.now) (how_many names.now) name.now) card.old result card.new }
     ensures told { TellsListed C.Card.meaning names.now card.old name.now result }
 {
     if names.is_journal(name) {
@@ -38,6 +41,7 @@ fn check_listed<C: Card>(card: &mut C, names: &Names, name: &[u8]) -> Result<(),
 /// Tests each listed file.
 fn check_names<C: Card>(card: &mut C, names: &Names, list: &[&[u8]]) -> Result<(), Refusal>
     ensures looked { OnlyLooked C.Card.meaning R1 names.now card.old result card.new }
+    ensures asked { AskedFor C.Card.meaning (AsksNames (C.Card.meaning.holds card.old) (file_of names.now) (how_many names.now) (texts list.now)) card.old result card.new }
     ensures told { TellsNames C.Card.meaning names.now card.old (texts list.now) result }
 {
     for name in list {
@@ -49,6 +53,7 @@ fn check_names<C: Card>(card: &mut C, names: &Names, list: &[&[u8]]) -> Result<(
 /// Tests that the bytes are a list of names, and each file of it.
 fn check_list<C: Card>(card: &mut C, names: &Names, bytes: &[u8]) -> Result<(), Refusal>
     ensures looked { OnlyLooked C.Card.meaning R1 names.now card.old result card.new }
+    ensures asked { AskedFor C.Card.meaning (AsksList (C.Card.meaning.holds card.old) (file_of names.now) (how_many names.now) bytes.now) card.old result card.new }
     ensures told { TellsList C.Card.meaning names.now card.old bytes.now result }
 {
     let list = read_names(bytes).ok_or(NO_LIST)?;
@@ -63,6 +68,7 @@ fn read_super<'a, C: Card>(
 ) -> Result<Option<&'a [u8]>, SetFault>
     requires { Present (C.Card.meaning.holds card.old (super_file names.now)) }
     ensures looked { Looked C.Card.meaning R1 (file_of names.now) (how_many names.now) card.old (ended result) card.new }
+    ensures asked { (b : List ℕ) → C.Card.meaning.holds card.old (super_file names.now) ≡ Some b → Went C.Card.meaning (super_looks (super_file names.now) b) card.old result card.new }
     ensures told { IfOk result (λ o. (b : List ℕ) × (C.Card.meaning.holds card.old (super_file names.now) ≡ Some b) × MatchOption o (17724 < count_of b) (λ bytes. bytes.now ≡ b)) }
 {
     let length = length_of(card, names, Step::R1, SUPER_JOURNAL)?.unwrap() as usize;
@@ -83,6 +89,7 @@ pub(crate) fn check_super<C: Card>(
 ) -> Result<(), Refusal>
     requires { Present (C.Card.meaning.holds card.old (super_file names.now)) }
     ensures looked { OnlyLooked C.Card.meaning R1 names.now card.old result card.new }
+    ensures asked { AskedFor C.Card.meaning (AsksSuper (C.Card.meaning.holds card.old) (file_of names.now) (how_many names.now)) card.old result card.new }
     ensures told { TellsSuper C.Card.meaning names.now card.old result }
 {
     let bytes = read_super(card, names, buffer)?.ok_or(NO_LIST)?;

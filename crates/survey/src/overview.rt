@@ -3,6 +3,7 @@ ghost use Rattle.std.specs.Prelude.{◌≡◌, ℕ, ◌<◌};
 ghost use Rattle.refusal.specs.declared.step.Step.TheVariants.{R1};
 ghost use Rattle.names.specs.Files.{how_many, file_of};
 ghost use Rattle.set_files.specs.Looked.{OnlyLooked};
+ghost use Rattle.survey.specs.Asks.{Asks, AskedFor};
 ghost use Rattle.survey.specs.Examples.{Examples};
 ghost use Rattle.survey.specs.Finds.{Finds};
 ghost use Rattle.survey.specs.Linked.{look_at, found_of};
@@ -36,6 +37,7 @@ pub fn survey<C: Card>(
     buffer: &mut [u8; JOURNAL_LIMIT],
 ) -> Result<[Found; DATABASES], Refusal>
     ensures looked { OnlyLooked C.Card.meaning R1 names.now card.old result card.new }
+    ensures asked { AskedFor C.Card.meaning (Asks (C.Card.meaning.holds card.old) (file_of names.now) (how_many names.now)) card.old result card.new }
     ensures told { Finds (C.Card.meaning.holds card.old) (file_of names.now) (how_many names.now) result }
     ensures examples { Examples }
 {

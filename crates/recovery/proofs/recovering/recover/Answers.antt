@@ -14,6 +14,7 @@ returns-in_err-found g c =
       found = Err c.in_err-found.field-0.0;
       switched = c.power.ensures;
       looked = c.in_err-found.ensures.looked;
+      asked = c.in_err-found.ensures.asked;
       finds = c.in_err-found.ensures.told;
       after = (passed_up _ _ c.from_residual.ensures.1, refl);
     }
@@ -26,7 +27,7 @@ settle-requires g c =
 
 pub returns-in_err-settle : goal.returns-in_err-settle
 returns-in_err-settle g c =
-    surveyed _ _ _ _ _ _ _ _ _ c.power.ensures c.in_ok-found.ensures.looked c.in_ok-found.ensures.told
+    surveyed _ _ _ _ _ _ _ _ _ c.power.ensures c.in_ok-found.ensures.looked c.in_ok-found.ensures.asked c.in_ok-found.ensures.told
     (record {
       then = c.settle.new.card;
       done = Err c.in_err-settle.field-0.0;
@@ -36,7 +37,7 @@ returns-in_err-settle g c =
 
 pub returns-in_err-sizes : goal.returns-in_err-sizes
 returns-in_err-sizes g c =
-    surveyed _ _ _ _ _ _ _ _ _ c.power.ensures c.in_ok-found.ensures.looked c.in_ok-found.ensures.told
+    surveyed _ _ _ _ _ _ _ _ _ c.power.ensures c.in_ok-found.ensures.looked c.in_ok-found.ensures.asked c.in_ok-found.ensures.told
     (settled _ _ _ _ _ _ _ _ c.in_ok-settle.ensures
     (record {
       sizes = Err c.in_err-sizes.field-0.0;
@@ -47,6 +48,6 @@ returns-in_err-sizes g c =
 
 pub returns : goal.returns
 returns g c =
-    surveyed _ _ _ _ _ _ _ _ _ c.power.ensures c.in_ok-found.ensures.looked c.in_ok-found.ensures.told
+    surveyed _ _ _ _ _ _ _ _ _ c.power.ensures c.in_ok-found.ensures.looked c.in_ok-found.ensures.asked c.in_ok-found.ensures.told
     (settled _ _ _ _ _ _ _ _ c.in_ok-settle.ensures
     (record { sizes = Ok c.in_ok-sizes.sizes; went = c.in_ok-sizes.ensures.went; measured = c.in_ok-sizes.ensures.told; answer = refl }))

@@ -3,9 +3,12 @@ use Rattle.refusal.specs.declared.step.Step.TheVariants.{R1}
 use Rattle.names.specs.Files.{how_many, file_of}
 use Rattle.set_files.specs.Files.{Present}
 use Rattle.set_files.specs.Looked.{Looked}
+use Rattle.survey.specs.Asks.{AsksDatabase}
+use Rattle.survey.proofs.Asked.{Gone}
 use Rattle.survey.proofs.presence.all_present.Given as goal
 
 abbrev pub invariant-loop-d : goal.invariant-loop-d
 invariant-loop-d g l =
     Looked g.C.Card.meaning R1 (file_of l.names) (how_many l.names) l.initial.card (Ok tt) l.card
+    × Gone g.C.Card.meaning (AsksDatabase (g.C.Card.meaning.holds l.initial.card) (file_of l.names)) l.d l.initial.card l.card
     × ((k : ℕ) → k < l.d → Present (g.C.Card.meaning.holds l.initial.card (file_of l.names k)))
