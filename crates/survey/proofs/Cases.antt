@@ -11,6 +11,7 @@ use Rattle.survey.specs.declared.report.Found.TheVariants.{None as FoundNone, Sp
 use Rattle.survey.specs.Seen.{Seen, none, spent, hot, SeenAs, AllSeen, found_at}
 use Rattle.survey.specs.Finds.{AllPresent, HotAt, Good, FirstAbsent}
 use Rattle.survey.proofs.Asking.{each_of, asks_nothing, asks_first_absent, asks_joined}
+use Rattle.survey.proofs.Some.{asks_some}
 use Rattle.survey.proofs.One.{asks_one}
 use Rattle.survey.specs.Examples.{Examples, file, bare, created, first_only, journal, joined, orphaned}
 
@@ -129,5 +130,6 @@ examples =
       asks_nothing = asks_nothing;
       asks_first_absent = asks_first_absent;
       asks_joined = asks_joined lawful hot_joined;
+      asks_some = asks_some;
       asks_one = asks_one;
     }

@@ -7,3 +7,4 @@ mod Asked
 mod Judging
 mod Stages
 mod One
+mod Some

@@ -86,5 +86,7 @@ pub record Examples : Type 0 where
   pub asks_first_absent : Asks first_only file 3 (length_look 0 (file 0) ++ length_look 1 (file 1))
   -- a sound journal's super-journal is asked for by the journal, and once more as the set's; it is read, and lists nothing
   pub asks_joined : Asks joined file 1 joined_looks
-  -- the files ask for one list of looks
+  -- no files ask for no list of looks
+  pub asks_some : (files : Holds) (file : ℕ → Name) (n : ℕ) → ((list : List Task) → Asks files file n list → ⊥) → ⊥
+  -- and those of a set ask for one
   pub asks_one : (s : Names) (files : Holds) (a b : List Task) → Asks files (file_of s) (how_many s) a → Asks files (file_of s) (how_many s) b → a ≡ b
