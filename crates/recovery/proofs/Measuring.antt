@@ -3,9 +3,8 @@ use Rattle.std.proofs.Common.{◌≡◌, ℕ, ◌+◌, ◌<◌, Ok, Err, sym, su
 use Rattle.card.specs.Meaning.{Meaning, Name}
 use Rattle.refusal.specs.declared.refusals.Refusal.{Refusal}
 use Rattle.refusal.specs.declared.refusals.Refusal.TheVariants.{Damaged, Foreign, Database, Card}
-use Rattle.steps.specs.Tasks.{Went}
+use Rattle.steps.specs.Tasks.{Went, up_to}
 use Rattle.set_files.specs.Looked.{stop_of, Says, never, never₂}
-use Rattle.settling.specs.Settled.{up_to}
 use Rattle.settling.proofs.UpTo.{up_more, up_stop}
 use Rattle.recovery.specs.Measured.{length_tasks, measure_tasks}
 

@@ -6,12 +6,11 @@ use Rattle.card.specs.Meaning.{Meaning, Name}
 use Rattle.card.specs.Runs.{Act}
 use Rattle.refusal.specs.declared.fault.SetFault.{SetFault}
 use Rattle.refusal.specs.declared.refusals.Refusal.{Refusal}
-use Rattle.steps.specs.Tasks.{acts, Looks, Went}
+use Rattle.steps.specs.Tasks.{acts, Looks, Went, up_to}
 use Rattle.steps.proofs.Went.{acts_append}
 use Rattle.steps.proofs.Held.{looked_holds, all_append}
 use Rattle.survey.specs.declared.report.Found.{Found}
 use Rattle.set_files.specs.Looked.{dropped}
-use Rattle.settling.specs.Settled.{up_to}
 use Rattle.recovery.specs.declared.report.Recovery.{Recovery}
 use Rattle.recovery.specs.Measured.{HasPages, Measured, length_tasks, measure_tasks}
 use Rattle.recovery.specs.Recovered.{report, AfterSettled, AfterSurvey, Recovered}

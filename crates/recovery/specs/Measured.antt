@@ -5,10 +5,9 @@ use Rattle.card.specs.Calls.{length_of}
 use Rattle.refusal.specs.declared.step.Step.TheVariants.{R4}
 use Rattle.refusal.specs.declared.refusals.Refusal.{Refusal}
 use Rattle.refusal.specs.declared.refusals.Refusal.TheVariants.{Database}
-use Rattle.steps.specs.Tasks.{Task, task, at}
+use Rattle.steps.specs.Tasks.{Task, task, at, up_to}
 use Rattle.set_files.specs.Files.{Holds}
 use Rattle.set_files.specs.Looked.{Told, never, never₂}
-use Rattle.settling.specs.Settled.{up_to}
 
 -- so many whole pages, from 1 to 4,096
 pub record Pages (bytes p : ℕ) : Type 0 where

@@ -6,10 +6,9 @@ use Rattle.card.specs.Meaning.{Meaning, Name}
 use Rattle.card.specs.Runs.{Act}
 use Rattle.card.specs.Crash.{Leaves}
 use Rattle.refusal.specs.declared.fault.SetFault.{SetFault}
-use Rattle.steps.specs.Tasks.{Task, acts, Went}
+use Rattle.steps.specs.Tasks.{Task, acts, Went, up_to}
 use Rattle.steps.proofs.Went.{append_assoc, acts_append, went_then, went_stop, went_up, went_end}
 use Rattle.steps.proofs.Held.{leaves_append}
-use Rattle.settling.specs.Settled.{up_to}
 
 module _ {C : Type 0} (m : Meaning C) (f : ℕ → List Task) where
   pub up_none : (c : C) → Went m {V = Unit {0}} (up_to f 0) c (Ok tt) c

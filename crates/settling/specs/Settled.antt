@@ -1,12 +1,12 @@
 -- What recovery does with the journals that it found, in order: each hot one is played back into its
 -- database and then deleted, each spent one is deleted, and the super-journal goes last.
-use Rattle.std.specs.Prelude.{◌≡◌, ℕ, zero, suc, ◌+◌, ◌-◌, ◌*◌, List, [], ◌∷◌, ◌++◌, length, Some, None, Option}
+use Rattle.std.specs.Prelude.{◌≡◌, ℕ, ◌+◌, ◌-◌, ◌*◌, List, [], ◌∷◌, ◌++◌, length, Some, None, Option}
 use Rattle.card.specs.Meaning.{Meaning, Bytes, Name}
 use Rattle.card.specs.Calls.{length_of, write, set_length, sync, delete}
 use Rattle.journal.specs.Format.{Journal, LawfulJournal, full, record_of}
 use Rattle.journal.specs.OnCard.{judge_acts}
 use Rattle.refusal.specs.declared.step.Step.TheVariants.{R2, R3}
-use Rattle.steps.specs.Tasks.{Task, task, tasks, at, at_record}
+use Rattle.steps.specs.Tasks.{Task, task, tasks, at, at_record, up_to}
 use Rattle.names.specs.declared.names.Names.{Names}
 use Rattle.names.specs.Files.{how_many, file_of, journal_file}
 use Rattle.survey.specs.declared.report.Found.{Found}
@@ -20,11 +20,6 @@ module _ {C : Type 0} (m : Meaning C) (names : Names) (c : C) where
   -- the journal of the database d is this one, whole
   abbrev pub WholeOf : ℕ → Journal → Type 0
   WholeOf d j = LawfulJournal j × (m.holds c (journal_file names d) ≡ Some (full j))
-
--- the lists of the indices below n, in order
-unfoldable pub up_to : (ℕ → List Task) → ℕ → List Task
-up_to f zero = []
-up_to f (suc k) = up_to f k ++ f k
 
 -- the page of the record k, from 0, goes back to its place; the record is told from 1
 abbrev pub record_task : (ℕ → Name) → ℕ → Journal → ℕ → Task

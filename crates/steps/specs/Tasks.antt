@@ -1,6 +1,6 @@
 -- The card calls of a commit or a recovery: a task is a call and where it stands. A list of tasks is
 -- done in order up to the first that the card refuses, and the fault then tells that task.
-use Rattle.std.specs.Prelude.{◌≡◌, ℕ, List, ◌∷◌, ◌++◌, map, length, Some, Ok, Err, Option, Result}
+use Rattle.std.specs.Prelude.{◌≡◌, ℕ, zero, suc, List, [], ◌∷◌, ◌++◌, map, length, Some, Ok, Err, Option, Result}
 use Rattle.card.specs.declared.fault.Cause.{Cause}
 use Rattle.card.specs.declared.fault.CardFault.{CardFault}
 use Rattle.card.specs.Meaning.{Meaning, Bytes, Name}
@@ -32,6 +32,11 @@ tasks s list = map (λ a. record { site = s; act = a }) list
 
 abbrev pub acts : List Task → List Act
 acts ts = map (λ t. t.act) ts
+
+-- the lists of the indices below n, one after the other
+unfoldable pub up_to : (ℕ → List Task) → ℕ → List Task
+up_to f zero = []
+up_to f (suc k) = up_to f k ++ f k
 
 -- a call that only looks
 abbrev pub Looks : Op → Type 0

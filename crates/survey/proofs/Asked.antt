@@ -12,12 +12,12 @@ use Rattle.names.proofs.Files.{files_apart}
 use Rattle.refusal.specs.declared.fault.SetFault.{SetFault}
 use Rattle.refusal.specs.declared.refusals.Refusal.{Refusal}
 use Rattle.refusal.specs.declared.refusals.Refusal.TheVariants.{Damaged as RefusalDamaged, Foreign, Database, Card}
-use Rattle.steps.specs.Tasks.{Task, Went}
+use Rattle.steps.specs.Tasks.{Task, Went, up_to}
 use Rattle.steps.proofs.Went.{append_assoc, went_then, went_stop, went_end, went_up, went_value}
 use Rattle.set_files.specs.Files.{Present}
 use Rattle.set_files.specs.Looked.{FileTold, ended, stop_of, Says}
 use Rattle.set_files.proofs.Looks.{passed_up}
-use Rattle.survey.specs.Asks.{in_turn, Until, InOrder, Then, AskedFor, length_look, AsksNamed}
+use Rattle.survey.specs.Asks.{Until, InOrder, Then, AskedFor, length_look, AsksNamed}
 
 -- what a refusal says where it is not the card's
 pub said :
@@ -80,21 +80,21 @@ module _ {C : Type 0} (m : Meaning C) where
         by (inl h) = absurd (none h.0)
         by (inr h) = h.1
 
-in_turn_suc : (parts : ℕ → List Task) (k : ℕ) → in_turn parts (k + 1) ≡ in_turn parts k ++ parts k
-unfolding in_turn
-in_turn_suc parts k = ap (in_turn parts) (add-one k)
+up_to_suc : (parts : ℕ → List Task) (k : ℕ) → up_to parts (k + 1) ≡ up_to parts k ++ parts k
+unfolding up_to
+up_to_suc parts k = ap (up_to parts) (add-one k)
 
 -- the first parts, and the rest
-in_turn_split : {C : Type 0} (m : Meaning C) (parts : ℕ → List Task) (k n : ℕ) → k ≤ n → (rest : List Task) × (in_turn parts n ≡ in_turn parts k ++ rest)
-unfolding in_turn
-in_turn_split m parts k zero le = ([], ap (in_turn parts) (let e : 0 ≡ k = omega arith in e) ∙ sym (append-nil (in_turn parts k)))
-in_turn_split m parts k (suc n) le = by (cases_lt n k) (in_turn_split m parts k n)
+up_to_split : {C : Type 0} (m : Meaning C) (parts : ℕ → List Task) (k n : ℕ) → k ≤ n → (rest : List Task) × (up_to parts n ≡ up_to parts k ++ rest)
+unfolding up_to
+up_to_split m parts k zero le = ([], ap (up_to parts) (let e : 0 ≡ k = omega arith in e) ∙ sym (append-nil (up_to parts k)))
+up_to_split m parts k (suc n) le = by (cases_lt n k) (up_to_split m parts k n)
   where
-    by : (n < k) ⊎ (k ≤ n) → (k ≤ n → (rest : List Task) × (in_turn parts n ≡ in_turn parts k ++ rest)) → (rest : List Task) × (in_turn parts (suc n) ≡ in_turn parts k ++ rest)
-    by (inl lt) old = ([], ap (in_turn parts) (let e : suc n ≡ k = omega arith in e) ∙ sym (append-nil (in_turn parts k)))
+    by : (n < k) ⊎ (k ≤ n) → (k ≤ n → (rest : List Task) × (up_to parts n ≡ up_to parts k ++ rest)) → (rest : List Task) × (up_to parts (suc n) ≡ up_to parts k ++ rest)
+    by (inl lt) old = ([], ap (up_to parts) (let e : suc n ≡ k = omega arith in e) ∙ sym (append-nil (up_to parts k)))
     by (inr less) old =
         let s = old less in
-        (s.0 ++ parts n, ap (λ (ts : List Task). ts ++ parts n) s.1 ∙ append_assoc m (in_turn parts k) s.0 (parts n))
+        (s.0 ++ parts n, ap (λ (ts : List Task). ts ++ parts n) s.1 ∙ append_assoc m (up_to parts k) s.0 (parts n))
 
 -- the count is past what ended nothing
 until_past : (ends : ℕ → Type 0) (n count d : ℕ) → Until ends n count → d < n → ((i : ℕ) → i < d → ends i → ⊥) → d + 1 ≤ count
@@ -122,19 +122,19 @@ until_all ends n count (inr h) none = absurd (none h.0 h.2 h.3)
 
 -- the first k parts were gone through
 abbrev pub Gone : {C : Type 0} → Meaning C → (ℕ → List Task → Type 0) → ℕ → C → C → Type 0
-Gone m Part k c c₁ = (parts : ℕ → List Task) → ((i : ℕ) → i < k → Part i (parts i)) → Went m {V = Unit {0}} (in_turn parts k) c (Ok tt) c₁
+Gone m Part k c c₁ = (parts : ℕ → List Task) → ((i : ℕ) → i < k → Part i (parts i)) → Went m {V = Unit {0}} (up_to parts k) c (Ok tt) c₁
 
 module _ {C : Type 0} (m : Meaning C) (Part : ℕ → List Task → Type 0) where
   pub gone_none : (c : C) → Gone m Part 0 c c
-  unfolding in_turn
+  unfolding up_to
   gone_none c parts each = went_end m c tt
 
   gone_with :
       (k : ℕ) (c c₁ c₂ : C) (r : Result (Unit {0}) SetFault) → Gone m Part k c c₁ → ((list : List Task) → Part k list → Went m list c₁ r c₂) → (parts : ℕ → List Task) → ((i : ℕ) → i < k + 1 → Part i (parts i)) →
-      Went m (in_turn parts (k + 1)) c r c₂
+      Went m (up_to parts (k + 1)) c r c₂
   gone_with k c c₁ c₂ r p q parts each =
-      subst (λ (ts : List Task). Went m ts c r c₂) (sym (in_turn_suc parts k))
-      (went_then m (in_turn parts k) (parts k) c c₁ c₂ tt r (p parts (λ i lt. each i (omega arith))) (q (parts k) (each k (omega arith))))
+      subst (λ (ts : List Task). Went m ts c r c₂) (sym (up_to_suc parts k))
+      (went_then m (up_to parts k) (parts k) c c₁ c₂ tt r (p parts (λ i lt. each i (omega arith))) (q (parts k) (each k (omega arith))))
 
   -- one more
   pub gone_more : (k : ℕ) (c c₁ c₂ : C) → Gone m Part k c c₁ → ((list : List Task) → Part k list → Went m {V = Unit {0}} list c₁ (Ok tt) c₂) → Gone m Part (k + 1) c c₂
@@ -147,19 +147,19 @@ module _ {C : Type 0} (m : Meaning C) (Part : ℕ → List Task → Type 0) wher
         InOrder Part ends n list → Went m list c r c₂
     gone_ends d c c₁ c₂ (Ok u) lt before here p q list o =
         let e : o.count ≡ d + 1 = until_end ends n o.count d o.until lt (here refl) before in
-        subst (λ (ts : List Task). Went m ts c (Ok u) c₂) (sym (o.is ∙ ap (in_turn o.parts) e)) (gone_with d c c₁ c₂ (Ok u) p q o.parts (λ i less. o.each i (omega (arith, e))))
+        subst (λ (ts : List Task). Went m ts c (Ok u) c₂) (sym (o.is ∙ ap (up_to o.parts) e)) (gone_with d c c₁ c₂ (Ok u) p q o.parts (λ i less. o.each i (omega (arith, e))))
     gone_ends d c c₁ c₂ (Err f) lt before here p q list o =
         let past : d + 1 ≤ o.count = until_past ends n o.count d o.until lt before in
-        let s = in_turn_split m o.parts (d + 1) o.count past in
+        let s = up_to_split m o.parts (d + 1) o.count past in
         subst (λ (ts : List Task). Went m {V = Unit {0}} ts c (Err f) c₂) (sym (o.is ∙ s.1))
-        (went_stop m (in_turn o.parts (d + 1)) s.0 c c₂ f (gone_with d c c₁ c₂ (Err f) p q o.parts (λ i less. o.each i (omega (arith, past)))))
+        (went_stop m (up_to o.parts (d + 1)) s.0 c c₂ f (gone_with d c c₁ c₂ (Err f) p q o.parts (λ i less. o.each i (omega (arith, past)))))
 
     -- all of them
     pub gone_all :
         (k : ℕ) (c c₁ : C) → k ≡ n → ((i : ℕ) → i < n → ends i → ⊥) → Gone m Part k c c₁ → (list : List Task) → InOrder Part ends n list → Went m {V = Unit {0}} list c (Ok tt) c₁
     gone_all k c c₁ all none p list o =
         let e : o.count ≡ k = until_all ends n o.count o.until none ∙ sym all in
-        subst (λ (ts : List Task). Went m {V = Unit {0}} ts c (Ok tt) c₁) (sym (o.is ∙ ap (in_turn o.parts) e)) (p o.parts (λ i lt. o.each i (omega (arith, e))))
+        subst (λ (ts : List Task). Went m {V = Unit {0}} ts c (Ok tt) c₁) (sym (o.is ∙ ap (up_to o.parts) e)) (p o.parts (λ i lt. o.each i (omega (arith, e))))
 
 -- a name is told as one file
 pub told_one : (s : Names) (w : Name) (j k : ℕ) → FileTold (file_of s) (how_many s) w j → FileTold (file_of s) (how_many s) w k → j ≡ k

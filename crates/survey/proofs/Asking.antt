@@ -4,8 +4,8 @@ use Rattle.std.proofs.lemmas.Option.{none-some}
 use Rattle.card.specs.Meaning.{Name}
 use Rattle.journal.specs.Format.{Journal, LawfulJournal, full}
 use Rattle.super_journal.proofs.Names.{super_ends}
-use Rattle.steps.specs.Tasks.{Task}
-use Rattle.survey.specs.Asks.{in_turn, InOrder, length_look, super_looks, judge_looks, Absent, Damaged, AsksDatabase, AsksJournal, AsksDatabases, AsksJournals, AsksSuper, AfterDatabases, OursNamed, Asks}
+use Rattle.steps.specs.Tasks.{Task, up_to}
+use Rattle.survey.specs.Asks.{InOrder, length_look, super_looks, judge_looks, Absent, Damaged, AsksDatabase, AsksJournal, AsksDatabases, AsksJournals, AsksSuper, AfterDatabases, OursNamed, Asks}
 use Rattle.survey.specs.Examples.{file, bare, first_only, journal, joined, judged, joined_looks}
 use Rattle.survey.specs.Finds.{HotAt, NamesOurs, NoNames}
 use Rattle.survey.specs.Seen.{hot, SeenAs}
@@ -13,7 +13,7 @@ use Rattle.survey.proofs.Judging.{seen_undamaged}
 use Rattle.survey.proofs.Surveyed.{seen_hot}
 
 -- all the parts
-in_order_all : (Part : ℕ → List Task → Type 0) (ends : ℕ → Type 0) (n : ℕ) (parts : ℕ → List Task) → ((i : ℕ) → i < n → Part i (parts i)) → ((i : ℕ) → i < n → ends i → ⊥) → InOrder Part ends n (in_turn parts n)
+in_order_all : (Part : ℕ → List Task → Type 0) (ends : ℕ → Type 0) (n : ℕ) (parts : ℕ → List Task) → ((i : ℕ) → i < n → Part i (parts i)) → ((i : ℕ) → i < n → ends i → ⊥) → InOrder Part ends n (up_to parts n)
 in_order_all Part ends n parts each free = record { parts = parts; count = n; until = inl (refl, free); each = each; is = refl }
 
 -- what is true of one database
@@ -30,14 +30,14 @@ each_of P a b c (suc (suc (suc d))) lt = absurd (omega arith)
 
 -- three databases and nothing else
 bare_databases : AsksDatabases bare file 3 (length_look 0 (file 0) ++ (length_look 1 (file 1) ++ length_look 2 (file 2)))
-unfolding in_turn
+unfolding up_to
 bare_databases = in_order_all (AsksDatabase bare file) (Absent bare file) 3 (λ d. length_look d (file d)) (λ d lt. refl) there
   where
     there : (d : ℕ) → d < 3 → Absent bare file d → ⊥
     there = each_of _ (λ e. none-some _ (sym e)) (λ e. none-some _ (sym e)) (λ e. none-some _ (sym e))
 
 bare_journals : AsksJournals bare file 3 (judged 4 None ++ (judged 5 None ++ judged 6 None))
-unfolding in_turn
+unfolding up_to
 bare_journals = in_order_all (AsksJournal bare file 3) (Damaged bare file) 3 (judge_looks bare file) alone sound
   where
     alone : (d : ℕ) → d < 3 → AsksJournal bare file 3 d (judge_looks bare file d)
@@ -75,7 +75,7 @@ asks_nothing =
         }
 
 first_databases : AsksDatabases first_only file 3 (length_look 0 (file 0) ++ length_look 1 (file 1))
-unfolding in_turn
+unfolding up_to
 first_databases =
     record {
       parts = λ d. length_look d (file d);
@@ -97,7 +97,7 @@ asks_first_absent =
 
 -- a database with a sound journal and the super-journal
 joined_database : AsksDatabases joined file 1 (length_look 0 (file 0))
-unfolding in_turn
+unfolding up_to
 joined_database = in_order_all (AsksDatabase joined file) (Absent joined file) 1 (λ d. length_look d (file d)) (λ d lt. refl) (each_of_one _ (λ e. none-some _ (sym e)))
 
 -- no list of names is empty
@@ -109,7 +109,7 @@ module _ (lawful : LawfulJournal journal) (is_hot : SeenAs joined file 0 (hot jo
   undamaged = each_of_one _ (seen_undamaged joined file 0 (hot journal) is_hot)
 
   joined_journal : AsksJournals joined file 1 (judged 4 (Some (full journal)) ++ length_look 8 (file 8))
-  unfolding in_turn
+  unfolding up_to
   joined_journal =
       in_order_all (AsksJournal joined file 1) (Damaged joined file) 1 (λ d. judge_looks joined file d ++ length_look 8 (file 8))
       (each_of_one (λ (d : ℕ). AsksJournal joined file 1 d (judge_looks joined file d ++ length_look 8 (file 8)))

@@ -3,11 +3,11 @@ use Rattle.std.proofs.Common.{◌≡◌, ℕ, zero, suc, ◌<◌, ◌⊎◌, Lis
 use Rattle.card.specs.Meaning.{Bytes, Name}
 use Rattle.names.specs.declared.names.Names.{Names}
 use Rattle.names.specs.Files.{how_many, file_of}
-use Rattle.steps.specs.Tasks.{Task}
+use Rattle.steps.specs.Tasks.{Task, up_to}
 use Rattle.set_files.specs.Files.{Holds}
 use Rattle.set_files.specs.Looked.{FileTold}
 use Rattle.set_files.proofs.Played.{some_same}
-use Rattle.survey.specs.Asks.{in_turn, Until, InOrder, Then, length_look, super_looks, judge_looks, Absent, Damaged, AsksDatabase, AsksNamed, AsksJournal, StrayName, AsksListed, AsksNames, AsksList, AsksSuper, AsksDatabases, AsksJournals, Any, AsksOurs, AfterDatabases, Asks}
+use Rattle.survey.specs.Asks.{Until, InOrder, Then, length_look, super_looks, judge_looks, Absent, Damaged, AsksDatabase, AsksNamed, AsksJournal, StrayName, AsksListed, AsksNames, AsksList, AsksSuper, AsksDatabases, AsksJournals, Any, AsksOurs, AfterDatabases, Asks}
 use Rattle.survey.proofs.Asked.{until_end, until_all, told_one}
 use Rattle.survey.proofs.Judging.{naming_one}
 use Rattle.survey.proofs.Listings.{names_one}
@@ -20,15 +20,15 @@ until_one : (ends : ℕ → Type 0) (n j k : ℕ) → Until ends n j → Until e
 until_one ends n j k u (inl h) = until_all ends n j u h.1 ∙ sym h.0
 until_one ends n j k u (inr h) = until_end ends n j h.0 u h.2 h.3 h.4 ∙ sym h.1
 
-in_turn_one : (p q : ℕ → List Task) (k : ℕ) → ((i : ℕ) → i < k → p i ≡ q i) → in_turn p k ≡ in_turn q k
-unfolding in_turn
-in_turn_one p q zero each = refl
-in_turn_one p q (suc k) each = ap₂ (λ (x y : List Task). x ++ y) (in_turn_one p q k (λ i lt. each i (omega arith))) (each k (omega arith))
+up_to_one : (p q : ℕ → List Task) (k : ℕ) → ((i : ℕ) → i < k → p i ≡ q i) → up_to p k ≡ up_to q k
+unfolding up_to
+up_to_one p q zero each = refl
+up_to_one p q (suc k) each = ap₂ (λ (x y : List Task). x ++ y) (up_to_one p q k (λ i lt. each i (omega arith))) (each k (omega arith))
 
 in_order_one : (Part : ℕ → List Task → Type 0) (ends : ℕ → Type 0) (n : ℕ) → ((i : ℕ) → AtMostOne (Part i)) → AtMostOne (InOrder Part ends n)
 in_order_one Part ends n part a b p q =
     let e : p.count ≡ q.count = until_one ends n p.count q.count p.until q.until in
-    p.is ∙ in_turn_one p.parts q.parts p.count (λ i lt. part i (p.parts i) (q.parts i) (p.each i lt) (q.each i (omega (arith, e)))) ∙ ap (in_turn q.parts) e ∙ sym q.is
+    p.is ∙ up_to_one p.parts q.parts p.count (λ i lt. part i (p.parts i) (q.parts i) (p.each i lt) (q.each i (omega (arith, e)))) ∙ ap (up_to q.parts) e ∙ sym q.is
 
 then_one : (First : List Task → Type 0) (Ends : Type 0) (Rest : List Task → Type 0) → AtMostOne First → AtMostOne Rest → AtMostOne (Then First Ends Rest)
 then_one First Ends Rest first rest a b p q = p.is ∙ ap₂ (λ (x y : List Task). x ++ y) (first p.first q.first p.looks q.looks) (by p.after q.after) ∙ sym q.is

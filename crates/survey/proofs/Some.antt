@@ -4,9 +4,9 @@ use native.Mathlib.Decide.{ℕ_discrete}
 use Rattle.card.specs.Meaning.{Bytes, Name}
 use Rattle.super_journal.specs.Super.{LawfulNames, super_journal_bytes}
 use Rattle.names.specs.Files.{FileNamed}
-use Rattle.steps.specs.Tasks.{Task}
+use Rattle.steps.specs.Tasks.{Task, up_to}
 use Rattle.set_files.specs.Files.{Holds}
-use Rattle.survey.specs.Asks.{in_turn, Until, InOrder, Then, length_look, super_looks, judge_looks, Absent, Damaged, SoundNaming, AsksDatabase, AsksNamed, AsksJournal, StrayName, AsksListed, AsksList, AsksDatabases, AsksJournals, Any, OursNamed, AsksOurs, AfterDatabases, Asks}
+use Rattle.survey.specs.Asks.{Until, InOrder, Then, length_look, super_looks, judge_looks, Absent, Damaged, SoundNaming, AsksDatabase, AsksNamed, AsksJournal, StrayName, AsksListed, AsksList, AsksDatabases, AsksJournals, Any, OursNamed, AsksOurs, AfterDatabases, Asks}
 use Rattle.survey.specs.Finds.{JournalName}
 use Rattle.survey.proofs.Surveyed.{asked_present}
 
@@ -58,7 +58,7 @@ each_some Part (suc n) some k = each_some Part n some (λ p. some n (λ x. k (λ
 in_order_some : (Part : ℕ → List Task → Type 0) (ends : ℕ → Type 0) (n : ℕ) → ((i : ℕ) → SomeList (Part i)) → SomeList (InOrder Part ends n)
 in_order_some Part ends n some k =
     until_some ends n
-    (λ u. each_some Part u.0 some (λ p. k (in_turn p.0 u.0, record { parts = p.0; count = u.0; until = u.1; each = p.1; is = refl })))
+    (λ u. each_some Part u.0 some (λ p. k (up_to p.0 u.0, record { parts = p.0; count = u.0; until = u.1; each = p.1; is = refl })))
 
 then_some : (First : List Task → Type 0) (Ends : Type 0) (Rest : List Task → Type 0) → SomeList First → SomeList Rest → SomeList (Then First Ends Rest)
 then_some First Ends Rest first rest k = first (λ f. either Ends (λ e. by f.0 f.1 e))

@@ -1,5 +1,5 @@
 -- The looks that a survey makes, in order, by what the files hold.
-use Rattle.std.specs.Prelude.{◌≡◌, ℕ, zero, suc, ◌+◌, ◌<◌, cond, ◌⊎◌, List, [], ◌∷◌, ◌++◌, length, Some, None, Result, nat_le, slice_index_or}
+use Rattle.std.specs.Prelude.{◌≡◌, ℕ, ◌+◌, ◌<◌, cond, ◌⊎◌, List, [], ◌∷◌, ◌++◌, length, Some, None, Result, nat_le, slice_index_or}
 use Rattle.card.specs.Meaning.{Meaning, Bytes, Name}
 use Rattle.card.specs.Calls.{length_of, read}
 use Rattle.journal.specs.Format.{Journal, LawfulJournal, full}
@@ -7,15 +7,10 @@ use Rattle.journal.specs.OnCard.{judge_acts, journal_limit}
 use Rattle.super_journal.specs.Super.{LawfulNames, super_journal_bytes}
 use Rattle.refusal.specs.declared.step.Step.TheVariants.{R1}
 use Rattle.refusal.specs.declared.refusals.Refusal.{Refusal}
-use Rattle.steps.specs.Tasks.{Task, Went, task, tasks, at}
+use Rattle.steps.specs.Tasks.{Task, Went, task, tasks, at, up_to}
 use Rattle.set_files.specs.Files.{Holds, Present}
 use Rattle.set_files.specs.Looked.{FileTold, dropped}
 use Rattle.survey.specs.Finds.{DamagedAt, NamesOurs, Asked, NoNames, JournalName}
-
--- the first so many parts, one after the other
-unfoldable pub in_turn : (ℕ → List Task) → ℕ → List Task
-in_turn parts zero = []
-in_turn parts (suc k) = in_turn parts k ++ parts k
 
 -- so many of n: up to and with the first that ends it, or all where none does
 abbrev pub Until : (ℕ → Type 0) → ℕ → ℕ → Type 0
@@ -28,7 +23,7 @@ pub record InOrder (Part : ℕ → List Task → Type 0) (ends : ℕ → Type 0)
   pub count : ℕ
   pub until : Until ends n count
   pub each : (i : ℕ) → i < count → Part i (parts i)
-  pub is : list ≡ in_turn parts count
+  pub is : list ≡ up_to parts count
 
 -- first looks, and others after them, if those found nothing that ends the survey
 pub record Then (First : List Task → Type 0) (Ends : Type 0) (Rest : List Task → Type 0) (list : List Task) : Type 0 where

@@ -1,11 +1,10 @@
 use Rattle.std.proofs.Common.{◌≡◌, ℕ, ◌<◌, Ok, length, refl, ◌∙◌, subst, arith}
-use Rattle.steps.specs.Tasks.{Went, acts}
+use Rattle.steps.specs.Tasks.{Went, acts, up_to}
 use Rattle.steps.proofs.Held.{looked_files}
 use Rattle.names.specs.Files.{how_many, file_of}
 use Rattle.set_files.specs.Files.{Holds}
 use Rattle.set_files.specs.Looked.{never, never₂}
 use Rattle.set_files.proofs.Looks.{passed_up, told_up}
-use Rattle.settling.specs.Settled.{up_to}
 use Rattle.settling.proofs.UpTo.{up_none, up_more}
 use Rattle.recovery.specs.Measured.{HasPages, Unsized, length_tasks}
 use Rattle.recovery.proofs.InPages.{measured_more, all_measured, unsized_at}

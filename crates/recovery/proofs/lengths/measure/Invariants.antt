@@ -1,7 +1,6 @@
 use Rattle.std.proofs.Common.{◌≡◌, ℕ, ◌<◌, Ok, get_or}
-use Rattle.steps.specs.Tasks.{Went}
+use Rattle.steps.specs.Tasks.{Went, up_to}
 use Rattle.names.specs.Files.{file_of}
-use Rattle.settling.specs.Settled.{up_to}
 use Rattle.recovery.specs.Measured.{HasPages, length_tasks}
 use Rattle.recovery.proofs.lengths.measure.Given as goal
 

@@ -1,9 +1,9 @@
 use Rattle.std.proofs.Common.{[], ◌∷◌, Ok}
 use Rattle.journal.specs.Format.{Journal}
 use Rattle.journal.specs.Read.{Of}
-use Rattle.steps.specs.Tasks.{Went}
+use Rattle.steps.specs.Tasks.{Went, up_to}
 use Rattle.names.specs.Files.{file_of}
-use Rattle.settling.specs.Settled.{up_to, record_task}
+use Rattle.settling.specs.Settled.{record_task}
 use Rattle.settling.proofs.playback.write_records.Given as goal
 
 abbrev pub invariant-loop-index : goal.invariant-loop-index
