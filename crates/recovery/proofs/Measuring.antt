@@ -5,7 +5,7 @@ use Rattle.refusal.specs.declared.refusals.Refusal.{Refusal}
 use Rattle.refusal.specs.declared.refusals.Refusal.TheVariants.{Damaged, Foreign, Database, Card}
 use Rattle.steps.specs.Tasks.{Went, up_to}
 use Rattle.set_files.specs.Looked.{stop_of, Says, never, never₂}
-use Rattle.settling.proofs.UpTo.{up_more, up_stop}
+use Rattle.steps.proofs.UpTo.{up_more, up_stop}
 use Rattle.recovery.specs.Measured.{length_tasks, measure_tasks}
 
 module _ {C : Type 0} (m : Meaning C) (file : ℕ → Name) (n d : ℕ) where

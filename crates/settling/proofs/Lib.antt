@@ -1,3 +1,2 @@
-pub mod UpTo
 mod Restored
 mod Cases

@@ -18,7 +18,7 @@ use Rattle.set_files.specs.Files.{Holds}
 use Rattle.survey.specs.Seen.{Seen, none, spent, hot, SeenAs, FoundOf, Stands}
 use Rattle.settling.specs.Settled.{record_task, write_tasks, finish_tasks, restore_tasks, all_tasks, super_tasks}
 use Rattle.names.proofs.Files.{database_is_file, journal_is_file, super_is_file, files_apart}
-use Rattle.settling.proofs.UpTo.{up_leaves}
+use Rattle.steps.proofs.UpTo.{up_leaves}
 
 -- a journal reported hot stands
 pub hot_stands : (files : Holds) (file : ℕ → Name) (d : ℕ) (s : Seen) (k : ℕ) → Stands files file d s → FoundOf s (FoundHot k) → (j : Journal) × LawfulJournal j × (files (file (4 + d)) ≡ Some (full j))

@@ -1,2 +1,3 @@
 pub mod Went
 pub mod Held
+pub mod UpTo

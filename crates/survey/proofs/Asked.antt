@@ -1,5 +1,5 @@
 -- The looks that are asked for, gone through part by part.
-use Rattle.std.proofs.Common.{◌≡◌, ℕ, zero, suc, ◌+◌, ◌<◌, ◌≤◌, ◌⊎◌, List, [], ◌++◌, None, Ok, Err, Option, Result, sym, refl, ap, ◌∙◌, subst, inl, inr, add-one, arith}
+use Rattle.std.proofs.Common.{◌≡◌, ℕ, ◌+◌, ◌<◌, ◌≤◌, ◌⊎◌, List, [], ◌++◌, None, Ok, Err, Option, Result, sym, refl, ap, ◌∙◌, subst, inl, inr, arith}
 use native.Mathlib.Decide.{ℕ_discrete}
 use Rattle.std.specs.Result.{IsErrAnd}
 use Rattle.std.proofs.lemmas.List.{append-nil}
@@ -13,7 +13,8 @@ use Rattle.refusal.specs.declared.fault.SetFault.{SetFault}
 use Rattle.refusal.specs.declared.refusals.Refusal.{Refusal}
 use Rattle.refusal.specs.declared.refusals.Refusal.TheVariants.{Damaged as RefusalDamaged, Foreign, Database, Card}
 use Rattle.steps.specs.Tasks.{Task, Went, up_to}
-use Rattle.steps.proofs.Went.{append_assoc, went_then, went_stop, went_end, went_up, went_value}
+use Rattle.steps.proofs.Went.{went_then, went_stop, went_end, went_up, went_value}
+use Rattle.steps.proofs.UpTo.{up_suc, up_split}
 use Rattle.set_files.specs.Files.{Present}
 use Rattle.set_files.specs.Looked.{FileTold, ended, stop_of, Says}
 use Rattle.set_files.proofs.Looks.{passed_up}
@@ -80,22 +81,6 @@ module _ {C : Type 0} (m : Meaning C) where
         by (inl h) = absurd (none h.0)
         by (inr h) = h.1
 
-up_to_suc : (parts : ℕ → List Task) (k : ℕ) → up_to parts (k + 1) ≡ up_to parts k ++ parts k
-unfolding up_to
-up_to_suc parts k = ap (up_to parts) (add-one k)
-
--- the first parts, and the rest
-up_to_split : {C : Type 0} (m : Meaning C) (parts : ℕ → List Task) (k n : ℕ) → k ≤ n → (rest : List Task) × (up_to parts n ≡ up_to parts k ++ rest)
-unfolding up_to
-up_to_split m parts k zero le = ([], ap (up_to parts) (let e : 0 ≡ k = omega arith in e) ∙ sym (append-nil (up_to parts k)))
-up_to_split m parts k (suc n) le = by (cases_lt n k) (up_to_split m parts k n)
-  where
-    by : (n < k) ⊎ (k ≤ n) → (k ≤ n → (rest : List Task) × (up_to parts n ≡ up_to parts k ++ rest)) → (rest : List Task) × (up_to parts (suc n) ≡ up_to parts k ++ rest)
-    by (inl lt) old = ([], ap (up_to parts) (let e : suc n ≡ k = omega arith in e) ∙ sym (append-nil (up_to parts k)))
-    by (inr less) old =
-        let s = old less in
-        (s.0 ++ parts n, ap (λ (ts : List Task). ts ++ parts n) s.1 ∙ append_assoc m (up_to parts k) s.0 (parts n))
-
 -- the count is past what ended nothing
 until_past : (ends : ℕ → Type 0) (n count d : ℕ) → Until ends n count → d < n → ((i : ℕ) → i < d → ends i → ⊥) → d + 1 ≤ count
 until_past ends n count d (inl h) lt before = omega (arith, h.0)
@@ -133,7 +118,7 @@ module _ {C : Type 0} (m : Meaning C) (Part : ℕ → List Task → Type 0) wher
       (k : ℕ) (c c₁ c₂ : C) (r : Result (Unit {0}) SetFault) → Gone m Part k c c₁ → ((list : List Task) → Part k list → Went m list c₁ r c₂) → (parts : ℕ → List Task) → ((i : ℕ) → i < k + 1 → Part i (parts i)) →
       Went m (up_to parts (k + 1)) c r c₂
   gone_with k c c₁ c₂ r p q parts each =
-      subst (λ (ts : List Task). Went m ts c r c₂) (sym (up_to_suc parts k))
+      subst (λ (ts : List Task). Went m ts c r c₂) (sym (up_suc m parts k))
       (went_then m (up_to parts k) (parts k) c c₁ c₂ tt r (p parts (λ i lt. each i (omega arith))) (q (parts k) (each k (omega arith))))
 
   -- one more
@@ -150,7 +135,7 @@ module _ {C : Type 0} (m : Meaning C) (Part : ℕ → List Task → Type 0) wher
         subst (λ (ts : List Task). Went m ts c (Ok u) c₂) (sym (o.is ∙ ap (up_to o.parts) e)) (gone_with d c c₁ c₂ (Ok u) p q o.parts (λ i less. o.each i (omega (arith, e))))
     gone_ends d c c₁ c₂ (Err f) lt before here p q list o =
         let past : d + 1 ≤ o.count = until_past ends n o.count d o.until lt before in
-        let s = up_to_split m o.parts (d + 1) o.count past in
+        let s = up_split m o.parts (d + 1) o.count past in
         subst (λ (ts : List Task). Went m {V = Unit {0}} ts c (Err f) c₂) (sym (o.is ∙ s.1))
         (went_stop m (up_to o.parts (d + 1)) s.0 c c₂ f (gone_with d c c₁ c₂ (Err f) p q o.parts (λ i less. o.each i (omega (arith, past)))))
 

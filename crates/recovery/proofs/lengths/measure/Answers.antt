@@ -5,7 +5,7 @@ use Rattle.names.specs.Files.{how_many, file_of}
 use Rattle.set_files.specs.Files.{Holds}
 use Rattle.set_files.specs.Looked.{never, never₂}
 use Rattle.set_files.proofs.Looks.{passed_up, told_up}
-use Rattle.settling.proofs.UpTo.{up_none, up_more}
+use Rattle.steps.proofs.UpTo.{up_none, up_more}
 use Rattle.recovery.specs.Measured.{HasPages, Unsized, length_tasks}
 use Rattle.recovery.proofs.InPages.{measured_more, all_measured, unsized_at}
 use Rattle.recovery.proofs.Measuring.{measure_stopped}

@@ -5,7 +5,7 @@ use Rattle.refusal.specs.declared.step.Step.TheVariants.{R2}
 use Rattle.steps.specs.Tasks.{Went, task, at}
 use Rattle.steps.proofs.Went.{went_as}
 use Rattle.set_files.proofs.Looks.{passed_up}
-use Rattle.settling.proofs.UpTo.{went_next, went_fail}
+use Rattle.steps.proofs.UpTo.{went_next, went_fail}
 use Rattle.settling.proofs.playback.finish.Goals as goal
 
 pub returns-in_err-set_length : goal.returns-in_err-set_length

@@ -5,7 +5,7 @@ use Rattle.names.specs.Files.{file_of}
 use Rattle.settling.specs.Settled.{finish_tasks}
 use Rattle.journal.specs.declared.verdict.Sound.{Sound as SoundParts}
 use Rattle.steps.proofs.Went.{went_then}
-use Rattle.settling.proofs.UpTo.{went_fail}
+use Rattle.steps.proofs.UpTo.{went_fail}
 use Rattle.settling.proofs.playback.play.Goals as goal
 
 pub returns-in_err-sound : goal.returns-in_err-sound

@@ -1,7 +1,7 @@
 use Rattle.std.proofs.Common.{◌<◌, length, Ok, arith}
 use Rattle.set_files.proofs.Looks.{passed_up}
 use Rattle.steps.proofs.Went.{went_up}
-use Rattle.settling.proofs.UpTo.{up_none, up_more, up_stop}
+use Rattle.steps.proofs.UpTo.{up_none, up_more, up_stop}
 use Rattle.settling.proofs.playback.write_records.Goals as goal
 
 pub loop-index-init : goal.loop-index-init

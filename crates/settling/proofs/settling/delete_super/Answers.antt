@@ -6,7 +6,7 @@ use Rattle.names.specs.Files.{file_of}
 use Rattle.set_files.proofs.Looks.{passed_up, told_some}
 use Rattle.settling.specs.Settled.{super_tasks}
 use Rattle.settling.proofs.Restored.{super_stop}
-use Rattle.settling.proofs.UpTo.{went_next}
+use Rattle.steps.proofs.UpTo.{went_next}
 use Rattle.settling.proofs.settling.delete_super.Goals as goal
 
 pub returns-in_err-length_of-clause-went : goal.returns-in_err-length_of-clause-went

@@ -8,7 +8,7 @@ use Rattle.steps.specs.Tasks.{Went}
 use Rattle.steps.proofs.Went.{went_up}
 use Rattle.names.specs.Files.{how_many, file_of}
 use Rattle.settling.specs.Settled.{all_tasks}
-use Rattle.settling.proofs.UpTo.{up_none, up_more, up_stop}
+use Rattle.steps.proofs.UpTo.{up_none, up_more, up_stop}
 use Rattle.settling.proofs.Restored.{still_stands}
 use Rattle.settling.proofs.settling.restore_all.Goals as goal
 

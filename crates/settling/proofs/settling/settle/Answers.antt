@@ -5,7 +5,7 @@ use Rattle.steps.specs.Tasks.{Went}
 use Rattle.steps.proofs.Went.{went_then}
 use Rattle.names.specs.Files.{how_many, file_of}
 use Rattle.settling.specs.Settled.{super_tasks}
-use Rattle.settling.proofs.UpTo.{went_fail}
+use Rattle.steps.proofs.UpTo.{went_fail}
 use Rattle.settling.proofs.Restored.{super_kept}
 use Rattle.settling.proofs.settling.settle.Goals as goal
 

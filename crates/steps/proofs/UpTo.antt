@@ -15,7 +15,7 @@ module _ {C : Type 0} (m : Meaning C) (f : ℕ → List Task) where
   unfolding up_to
   up_none c = went_end m c tt
 
-  up_suc : (k : ℕ) → up_to f (k + 1) ≡ up_to f k ++ f k
+  pub up_suc : (k : ℕ) → up_to f (k + 1) ≡ up_to f k ++ f k
   unfolding up_to
   up_suc k = ap (up_to f) (add-one k)
 
@@ -24,7 +24,7 @@ module _ {C : Type 0} (m : Meaning C) (f : ℕ → List Task) where
   up_more k c c₁ c₂ r p q = subst (λ (ts : List Task). Went m ts c r c₂) (sym (up_suc k)) (went_then m (up_to f k) (f k) c c₁ c₂ tt r p q)
 
   -- the first ones, and the rest
-  up_split : (k n : ℕ) → k ≤ n → (rest : List Task) × (up_to f n ≡ up_to f k ++ rest)
+  pub up_split : (k n : ℕ) → k ≤ n → (rest : List Task) × (up_to f n ≡ up_to f k ++ rest)
   unfolding up_to
   up_split k zero le = ([], ap (up_to f) (let e : 0 ≡ k = omega arith in e) ∙ sym (append-nil (up_to f k)))
   up_split k (suc n) le = by (cases_lt n k) (up_split k n)
