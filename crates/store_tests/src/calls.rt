@@ -5,6 +5,7 @@ use crate::script::{Answer, Call, SEVENS, Told, check_calls};
 use card::{CardCall, CardFault, Cause};
 use halves::Kept;
 use journal::{JournalFault, PAGE};
+use recovery::Found;
 use refusal::{Refusal, SetFault};
 use store::Set;
 
@@ -23,8 +24,9 @@ fn unread(cause: Cause, origin: u8) -> Refusal {
 }
 
 /// The calls with a token that is not the running transaction's.
-const VOID: [(Call, Answer); 4] = [
+const VOID: [(Call, Answer); 5] = [
     (Call::Write(0, 1, PAGE), Err(Refusal::Transaction)),
+    (Call::Write(9, 0, 0), Err(Refusal::Transaction)),
     (Call::Savepoint, Err(Refusal::Transaction)),
     (Call::Release(0), Err(Refusal::Transaction)),
     (Call::Release(1), Err(Refusal::Transaction)),
@@ -210,6 +212,29 @@ fn a_commit_of_nothing_calls_no_card(rt: HostRuntime) {
         (committed, faulty, set.read(0, 1, &mut bytes)),
         ((Ok(0), true), (Err(unread(Cause::Device, 4)), true), Ok(()))
     );
+}
+
+#[test]
+fn a_commit_that_only_adds_a_page_is_undone(rt: HostRuntime) {
+    let mut image = [0u8; IMAGE];
+    // the ninth call of the commit deletes the journal: after its making, the page, and the syncs
+    let deletion = call_after_recovery(&rt, 1).saturating_add(8);
+    let card = layer(&rt, direct(&rt, &mut image, 1), &[deletion]);
+    let mut set = ready(&rt, card, 1);
+    let t = set.begin(7);
+    let written = set.write(&t, 0, 3, &SEVENS);
+    let committed = (set.size(0), set.commit(t).is_err(), set.is_ready());
+    let found = set.recover().expect(&rt, "no good recovery").found[0];
+    assert_eq!(rt;
+        (written, committed, found, set.size(0)),
+        (
+            Ok(()),
+            (Ok(3), true, false),
+            Found::Hot { records: 1 },
+            Ok(2)
+        )
+    );
+    Page::new(0, 2, Version::Old).check(&rt, &mut set);
 }
 
 #[test]
