@@ -1,4 +1,4 @@
--- The small sets of files are found as the examples say.
+-- The small sets of files are found as the examples say, and any files ask for one list of looks.
 use Rattle.std.proofs.Common.{◌≡◌, ℕ, zero, suc, ◌<◌, List, [], ◌∷◌, Some, None, refl, sym, ap, ◌∙◌, inl, inr, arith}
 use Rattle.std.proofs.lemmas.Option.{none-some}
 use Rattle.card.specs.Meaning.{Name}
@@ -13,6 +13,7 @@ use Rattle.survey.specs.Finds.{AllPresent, HotAt, Good, FirstAbsent}
 use Rattle.survey.proofs.Asking.{each_of, asks_nothing, asks_first_absent, asks_joined}
 use Rattle.survey.proofs.Some.{asks_some}
 use Rattle.survey.proofs.One.{asks_one}
+use Rattle.survey.specs.Asks.{AsksLaw}
 use Rattle.survey.specs.Examples.{Examples, file, bare, created, first_only, journal, joined, orphaned}
 
 -- the journal is lawful
@@ -130,6 +131,7 @@ examples =
       asks_nothing = asks_nothing;
       asks_first_absent = asks_first_absent;
       asks_joined = asks_joined lawful hot_joined;
-      asks_some = asks_some;
-      asks_one = asks_one;
     }
+
+pub asks_law : AsksLaw
+asks_law = record { some = asks_some; one = asks_one }

@@ -7,6 +7,8 @@ use Rattle.journal.specs.OnCard.{judge_acts, journal_limit}
 use Rattle.super_journal.specs.Super.{LawfulNames, super_journal_bytes}
 use Rattle.refusal.specs.declared.step.Step.TheVariants.{R1}
 use Rattle.refusal.specs.declared.refusals.Refusal.{Refusal}
+use Rattle.names.specs.declared.names.Names.{Names}
+use Rattle.names.specs.Files.{how_many, file_of}
 use Rattle.steps.specs.Tasks.{Task, Went, task, tasks, at, up_to}
 use Rattle.set_files.specs.Files.{Holds, Present}
 use Rattle.set_files.specs.Looked.{FileTold, dropped}
@@ -124,3 +126,8 @@ module _ (files : Holds) (file : ℕ → Name) where
     -- the databases; if all are there, what comes after them
     abbrev pub Asks : List Task → Type 0
     Asks = Then AsksDatabases (Any Absent) AfterDatabases
+
+-- the files ask for a list of looks, and those of a set for one alone
+pub record AsksLaw : Type 0 where
+  pub some : (files : Holds) (file : ℕ → Name) (n : ℕ) → ((list : List Task) → Asks files file n list → ⊥) → ⊥
+  pub one : (s : Names) (files : Holds) (a b : List Task) → Asks files (file_of s) (how_many s) a → Asks files (file_of s) (how_many s) b → a ≡ b

@@ -1,11 +1,9 @@
 -- What is found in a few small sets of files, for readers of the definitions.
-use Rattle.std.specs.Prelude.{◌≡◌, ℕ, List, [], ◌∷◌, ◌++◌, replicate, Some, None, Option, Ok, Err, slice_index_or}
+use Rattle.std.specs.Prelude.{ℕ, List, [], ◌∷◌, ◌++◌, replicate, Some, None, Option, Ok, Err, slice_index_or}
 use Rattle.card.specs.Meaning.{Bytes, Name}
 use Rattle.journal.specs.Format.{Journal, full}
 use Rattle.card.specs.Calls.{read}
 use Rattle.journal.specs.OnCard.{judge_acts}
-use Rattle.names.specs.declared.names.Names.{Names}
-use Rattle.names.specs.Files.{how_many, file_of}
 use Rattle.steps.specs.Tasks.{Task, task, tasks, at}
 use Rattle.refusal.specs.declared.step.Step.TheVariants.{R1}
 use Rattle.refusal.specs.declared.refusals.Refusal.TheVariants.{Database}
@@ -86,7 +84,3 @@ pub record Examples : Type 0 where
   pub asks_first_absent : Asks first_only file 3 (length_look 0 (file 0) ++ length_look 1 (file 1))
   -- a sound journal's super-journal is asked for by the journal, and once more as the set's; it is read, and lists nothing
   pub asks_joined : Asks joined file 1 joined_looks
-  -- no files ask for no list of looks
-  pub asks_some : (files : Holds) (file : ℕ → Name) (n : ℕ) → ((list : List Task) → Asks files file n list → ⊥) → ⊥
-  -- and those of a set ask for one
-  pub asks_one : (s : Names) (files : Holds) (a b : List Task) → Asks files (file_of s) (how_many s) a → Asks files (file_of s) (how_many s) b → a ≡ b

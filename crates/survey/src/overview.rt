@@ -3,7 +3,7 @@ ghost use Rattle.std.specs.Prelude.{◌≡◌, ℕ, ◌<◌};
 ghost use Rattle.refusal.specs.declared.step.Step.TheVariants.{R1};
 ghost use Rattle.names.specs.Files.{how_many, file_of};
 ghost use Rattle.set_files.specs.Looked.{OnlyLooked};
-ghost use Rattle.survey.specs.Asks.{Asks, AskedFor};
+ghost use Rattle.survey.specs.Asks.{Asks, AskedFor, AsksLaw};
 ghost use Rattle.survey.specs.Examples.{Examples};
 ghost use Rattle.survey.specs.Finds.{Finds};
 ghost use Rattle.survey.specs.Linked.{look_at, found_of};
@@ -29,8 +29,8 @@ fn found_in(looks: [Look; DATABASES]) -> [Found; DATABASES]
 /// What each database's journal is. It is refused, in this order, for an absent database, a damaged
 /// journal, a hot journal that names another super-journal, and a super-journal that is damaged or
 /// lists another present file.
-// `using`: the examples are proved at each return alike, and so they have no proof file
-#[tactic(auto, using(crate::proofs::Cases::examples))]
+// `using`: the law and the examples are proved at each return alike, and so they have no proof file
+#[tactic(auto, using(crate::proofs::Cases::asks_law, crate::proofs::Cases::examples))]
 pub fn survey<C: Card>(
     card: &mut C,
     names: &Names,
@@ -39,6 +39,7 @@ pub fn survey<C: Card>(
     ensures looked { OnlyLooked C.Card.meaning R1 names.now card.old result card.new }
     ensures asked { AskedFor C.Card.meaning (Asks (C.Card.meaning.holds card.old) (file_of names.now) (how_many names.now)) card.old result card.new }
     ensures told { Finds (C.Card.meaning.holds card.old) (file_of names.now) (how_many names.now) result }
+    ensures law { AsksLaw }
     ensures examples { Examples }
 {
     all_present(card, names)?;
