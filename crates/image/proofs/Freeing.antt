@@ -1,16 +1,14 @@
--- Slots freed one after the other, an image of zeros, and what an image then holds.
-use Rattle.std.proofs.Common.{◌≡◌, ℕ, suc, ◌+◌, ◌-◌, ◌*◌, ◌<◌, ◌≤◌, Bool, true, false, cond, ◌⊎◌, length, get_or, replicate, Some, None, sym, refl, ap, ◌∙◌, subst, inl, inr, ⊎_elim, arith}
-use native.Mathlib.Decide.{ℕ_discrete, dec_le, dec_lt}
-use lib.ListN.{length-replicate}
-use Rattle.std.proofs.lemmas.List.{get_or-replicate, get_or_past}
+-- Slots freed one after the other, and what an image then holds.
+use Rattle.std.proofs.Common.{◌≡◌, ℕ, suc, ◌+◌, ◌-◌, ◌*◌, ◌<◌, ◌≤◌, Bool, true, false, cond, ◌⊎◌, length, Some, None, sym, refl, ap, ◌∙◌, subst, inl, inr, ⊎_elim, arith, below_more}
+use native.Mathlib.Decide.{ℕ_discrete}
 use Rattle.std.proofs.lemmas.Bool.{cases_Bool, both_ways, le-leb, lt-leb}
 use Rattle.card.specs.Meaning.{Bytes, Name}
 use Rattle.card.specs.Calls.{overwrite, delete}
 use Rattle.image.specs.Layout.{named, free, content, slot, slot_size, held, first_of, free_slots, FirstSlot}
 use Rattle.image.specs.Stored.{Freed, Done, Empty}
-use Rattle.image.proofs.Named.{free_unnamed, free_head, named_parts, not_named, is_free}
+use Rattle.image.proofs.Named.{free_unnamed, free_head, named_parts, not_named}
 use Rattle.image.proofs.First.{first_same, first_none, free_gain, free_none, free_all, free_most}
-use Rattle.image.proofs.Slices.{slot_put, slot_other, put_length, length_slot, slot_at}
+use Rattle.image.proofs.Slices.{slot_put, slot_other, put_length, put_size, length_slot}
 
 -- of the slots of which a test is true some are freed: each slot is as it was, or was one of them and is free
 pub record Freeing (is : Bytes → Bool) (image image' : Bytes) : Type 0 where
@@ -114,26 +112,33 @@ empty_small image small =
           ∙ sym (ap (λ (b : Bool). cond b 16 0) (lt-leb 37 (slot_size image) small));
     }
 
-zero_at : (size i : ℕ) → ◌≡◌ {A = ℕ} (get_or (replicate size 0) i 0) 0
-zero_at size i = by (dec_lt i size)
-  where
-    by : Dec (i < size) → ◌≡◌ {A = ℕ} (get_or (replicate size 0) i 0) 0
-    by (yes lt) = get_or-replicate size i 0 0 lt
-    by (no past) = get_or_past (replicate size 0) i 0 (omega (arith, length-replicate {A = ℕ} size 0))
+-- slots with room for a head, of which the first k are free
+pub record Vacant (image : Bytes) (k : ℕ) : Type 0 where
+  pub large : 37 ≤ slot_size image
+  pub below : (j : ℕ) → j < k → free (slot image j) ≡ true
 
--- an image of zeros holds no file, and each slot that has room for a head is free
-pub empty_zeros : (image : Bytes) (size : ℕ) → image ≡ replicate size 0 → Empty image
+pub vacant_none : (image : Bytes) → 37 ≤ slot_size image → Vacant image 0
+vacant_none image large = record { large = large; below = λ j lt. absurd (omega (arith, lt)) }
+
+-- one slot more is free
+pub vacant_more : (image : Bytes) (k : ℕ) → Vacant image k → (new image' : Bytes) → k < 16 → length new ≡ slot_size image → free new ≡ true → image' ≡ overwrite image (k * slot_size image) new → Vacant image' (k + 1)
+vacant_more image k some new image' in_image whole vacant put =
+    record {
+      large = omega (arith, some.large, ap slot_size put ∙ put_size image k new in_image whole);
+      below = below_more _ k (λ j lt. ap free (there j lt) ∙ some.below j lt) (ap free here ∙ vacant);
+    }
+  where
+    here : slot image' k ≡ new
+    here = ap (λ (i : Bytes). slot i k) put ∙ slot_put image k new in_image whole
+
+    there : (j : ℕ) → j < k → slot image' j ≡ slot image j
+    there j lt = ap (λ (i : Bytes). slot i j) put ∙ slot_other image k new in_image whole j (omega arith) (λ e. omega arith)
+
+-- an image of free slots holds no file
+pub empty_vacant : (image : Bytes) → Vacant image 16 → Empty image
 unfolding held free_slots
-empty_zeros image size zeros = by (dec_le 37 (slot_size image))
-  where
-    vacant : 37 ≤ slot_size image → (j : ℕ) → j < 16 → free (slot image j) ≡ true
-    vacant large j lt =
-        is_free (slot image j) (omega (arith, length_slot image j lt)) (slot_at image j 32 (omega arith) ∙ ap (λ (i : Bytes). get_or i (j * slot_size image + 32) 0) zeros ∙ zero_at size (j * slot_size image + 32))
-
-    by : Dec (37 ≤ slot_size image) → Empty image
-    by (yes large) =
-        record {
-          none = λ n. first_none n (slot image) (λ j. content (slot image j)) 16 (λ j lt. free_unnamed n (slot image j) (vacant large j lt));
-          free = free_all (slot image) 16 (vacant large) ∙ sym (ap (λ (b : Bool). cond b 16 0) (le-leb 37 (slot_size image) large));
-        }
-    by (no small) = empty_small image (omega arith)
+empty_vacant image all =
+    record {
+      none = λ n. first_none n (slot image) (λ j. content (slot image j)) 16 (λ j lt. free_unnamed n (slot image j) (all.below j lt));
+      free = free_all (slot image) 16 all.below ∙ sym (ap (λ (b : Bool). cond b 16 0) (le-leb 37 (slot_size image) all.large));
+    }

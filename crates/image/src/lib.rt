@@ -11,8 +11,8 @@ mod slots;
 
 pub use empty::clear;
 pub use fault::blame;
-pub use slot::{FILE_LENGTH, HEAD, content, resize};
+pub use slot::{FILE_LENGTH, HEAD, content, file_length, put_length, resize};
 pub use slots::{
     SLOTS, at_slot, create, delete, find, length, present, read, set_length, slot_at, slot_size,
-    sync, write,
+    start, sync, write,
 };

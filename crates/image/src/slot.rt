@@ -31,7 +31,7 @@ pub fn is_named(slot: &[u8], name: &[u8]) -> bool
     is_name(name)
         && slot.len() >= HEAD
         && usize::from(slot[NAME_LENGTH]) == name.len()
-        && slot.starts_with(name)
+        && slot[..name.len()] == name[..]
 }
 
 // `head` is asked by the functions that read or write the file's length, and no struct keeps it (tried): each method takes the
@@ -50,10 +50,19 @@ pub fn content(slot: &[u8]) -> &[u8]
     &room[..stored.min(room.len())]
 }
 
-/// Writes down how many bytes the file has.
+/// How many bytes the file in the slot has. For the crates of this repository: it wants a slot with its head.
+pub fn file_length(slot: &[u8]) -> usize
+    requires { 37 ≤ count slot.now }
+    ensures is { result ≡ count (content slot.now) }
+    ensures small { result < 2 ^ 32 }
+{
+    content(slot).len()
+}
+
+/// Writes down how many bytes the file has. For the crates of this repository: it wants a slot with its head.
 // `small` and not a `u32`, here and below: the lengths come from slices, so `put_bytes` and the mix of two halves would cast
 // theirs in this function's place, and `resize` would cast its own back.
-fn put_length(slot: &mut [u8], length: usize)
+pub fn put_length(slot: &mut [u8], length: usize)
     requires head { 37 ≤ count slot.old }
     requires small { length < 2 ^ 32 }
     ensures before { take 33 slot.new ≡ take 33 slot.old }
@@ -73,7 +82,7 @@ pub fn put_bytes(slot: &mut [u8], place: usize, bytes: &[u8])
     ensures content { content slot.new ≡ overwritten (content slot.old) place bytes.now }
     ensures name { take 33 slot.new ≡ take 33 slot.old }
 {
-    let old = content(slot).len();
+    let old = file_length(slot);
     let at = HEAD + place;
     slot[at..at + bytes.len()].copy_from_slice(bytes);
     put_length(slot, old.max(place + bytes.len()));
@@ -86,7 +95,7 @@ pub fn resize(slot: &mut [u8], length: usize)
     ensures content { content slot.new ≡ resized (content slot.old) length }
     ensures name { take 33 slot.new ≡ take 33 slot.old }
 {
-    let kept = content(slot).len().min(length);
+    let kept = file_length(slot).min(length);
     slot[HEAD + kept..HEAD + length].fill(0);
     put_length(slot, length);
 }

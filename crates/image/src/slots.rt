@@ -24,6 +24,15 @@ pub fn slot_size(image: &[u8]) -> usize
 
 // `k < 16` is asked of callers: loops and searches over `0..SLOTS` give plain numbers, which a type would be made from each time.
 
+/// Where a slot of the image begins. For the crates of this repository: it wants one of the 16.
+pub fn start(image: &[u8], k: usize) -> usize
+    requires { k < 16 }
+    ensures is { result ≡ k * (count image.now / 16) }
+    ensures within { result + count image.now / 16 ≤ count image.now }
+{
+    k * slot_size(image)
+}
+
 /// The bounds of a slot of the image.
 fn bounds(image: &[u8], k: usize) -> Range<usize>
     requires { k < 16 }
@@ -31,9 +40,8 @@ fn bounds(image: &[u8], k: usize) -> Range<usize>
     ensures end { result.end ≡ result.start + count image.now / 16 }
     ensures within { result.end ≤ count image.now }
 {
-    let size = slot_size(image);
-    let start = k * size;
-    start..start + size
+    let start = start(image, k);
+    start..start + slot_size(image)
 }
 
 /// A slot of the image. For the crates of this repository: it wants one of the 16.
