@@ -19,6 +19,7 @@ use halves::{Halves, Kept};
 // struct in each call and give it up at its end.
 
 /// Loses power if that was told, and then answers so.
+// Called where something is lost, and not in each call: it has the whole loss in it, and few calls are cut.
 fn lose(halves: &mut Halves, lost: Option<Kept>) -> Result<(), Cause>
     ensures { Lose lost halves.old result halves.new }
 {
@@ -45,12 +46,14 @@ fn cut<F: FnOnce(&mut Halves) -> Result<(), Cause>>(
     requires { F.IsAlwaysCallable work }
     ensures { Cut (FnOnceReturnsAtMut F.FnOnce work) lost halves.old result halves.new }
 {
+    if lost.is_none() {
+        return work(halves);
+    }
     if undone(lost) {
         return lose(halves, lost);
     }
-    let answer = work(halves);
-    lose(halves, lost)?;
-    answer
+    let _ = work(halves);
+    lose(halves, lost)
 }
 
 /// Tells a length, unless power is lost; a look has no other work to do.
@@ -58,7 +61,9 @@ pub fn length(halves: &mut Halves, lost: Option<Kept>, name: &[u8]) -> Result<Op
     ensures call { Call lost length_of name.now halves.old result halves.new }
     ensures told { IfOk result (λ told. told ≡ length_told (held halves.old.current.now name.now)) }
 {
-    lose(halves, lost)?;
+    if lost.is_some() {
+        lose(halves, lost)?;
+    }
     halves.length(name)
 }
 
@@ -73,7 +78,9 @@ pub fn read(
     ensures call { Call lost (reading place (count buffer.old)) name.now halves.old result halves.new }
     ensures told { ReadInto (held halves.old.current.now name.now) place buffer.old result buffer.new }
 {
-    lose(halves, lost)?;
+    if lost.is_some() {
+        lose(halves, lost)?;
+    }
     halves.read(name, place, buffer)
 }
 
