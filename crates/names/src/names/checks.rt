@@ -61,21 +61,14 @@ impl NameList {
         NameList { names }
     }
 
-    /// Whether there are two such files and they have one name.
-    fn are_alike(&self, one: usize, other: usize) -> bool
-        ensures { Decides result ((is_file (count (names_in self.now)) one ≡ true) × (is_file (count (names_in self.now)) other ≡ true) × (file_name (listed (names_in self.now)) one ≡ file_name (listed (names_in self.now)) other)) }
-    {
-        let (Some(a), Some(b)) = (self.name_of(one), self.name_of(other)) else {
-            return false;
-        };
-        a.bytes() == b.bytes()
-    }
-
     /// Whether an earlier file has the name of this one.
     fn is_taken(&self, file: usize) -> bool
         ensures { Decides result ((j : ℕ) × Alike (names_in self.now) j file) }
     {
-        (0..file).any(|j| self.are_alike(j, file))
+        let Some(name) = self.name_of(file) else {
+            return false;
+        };
+        (0..file).any(|j| self.has(j, name.bytes()))
     }
 
     /// Whether any two files have one name.

@@ -28,7 +28,7 @@ impl NameList {
     }
 
     /// Whether there is a file of that number and it has the name.
-    fn has(&self, number: usize, name: &[u8]) -> bool
+    pub(crate) fn has(&self, number: usize, name: &[u8]) -> bool
         ensures { Decides result ((is_file (count (names_in self.now)) number ≡ true) × (file_name (listed (names_in self.now)) number ≡ name.now)) }
     {
         let Some(file) = self.name_of(number) else {
