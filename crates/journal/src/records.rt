@@ -48,6 +48,12 @@ impl Records<'_> {
     pub fn first_wrong(&self) -> Option<u32>
         ensures { FirstWrong self.now.bytes.now self.now.header.count result }
     {
-        (0..self.header.count).find(|index| !self.holds(*index))
+        // a loop: with `find` and its closure a whole journal took twice the time
+        for index in 0..self.header.count {
+            if !self.holds(index) {
+                return Some(index);
+            }
+        }
+        None
     }
 }

@@ -1,19 +1,14 @@
-use Rattle.std.proofs.Common.{◌≡◌, ℕ, ◌<◌, ◌≤◌, true, false, Some, None, Option, arith, rules}
-use Rattle.std.specs.Option.{MatchOption}
-use Rattle.std.proofs.lemmas.Iterator.{first_from_Range}
-use Rattle.card.specs.Meaning.{Bytes}
-use Rattle.journal.specs.Judged.{record_right}
-use Rattle.journal.specs.Fronts.{FirstWrong}
+use Rattle.std.proofs.Common.{sym, ◌∙◌, arith, below_more}
 use Rattle.journal.proofs.records.Records.first_wrong.Goals as goal
 
-first_is :
-    (b : Bytes) (n : ℕ) (r : Option ℕ) →
-    MatchOption r ((k : ℕ) → 0 ≤ k → k < n → record_right b k ≡ true) (λ i. (0 ≤ i) × (i < n) × (record_right b i ≡ false) × ((k : ℕ) → 0 ≤ k → k < i → record_right b k ≡ true)) → FirstWrong b n r
-first_is b n None all = λ k lt. all k (omega arith) lt
-first_is b n (Some i) first = (first.1, λ k lt. first.3 k (omega arith) lt, first.2)
+pub loop-index-init : goal.loop-index-init
+loop-index-init c = λ k lt. absurd (omega arith)
+
+pub returns-then-not-holds : goal.returns-then-not-holds
+returns-then-not-holds c = (omega arith, c.loop-index.invariant, sym c.holds.ensures ∙ c.if-not-holds.true)
+
+pub loop-index-preserved : goal.loop-index-preserved
+loop-index-preserved c = below_more _ _ c.loop-index.invariant (sym c.holds.ensures ∙ c.if-not-holds.false)
 
 pub returns : goal.returns
-returns c =
-    let b = c.args.self.now.bytes.now in
-    first_is b c.args.self.now.header.count c.find.result
-    (first_from_Range _ _ _ c.find.result (λ k. record_right b k ≡ false) (λ k. record_right b k ≡ true) c.find.ensures.ran (λ x q h. search rules) (λ x q h. search rules))
+returns c = λ k lt. c.loop-index.invariant k (omega arith)
