@@ -7,9 +7,7 @@ mod real;
 mod story;
 mod words;
 
-use anyhow::{Context, anyhow};
-use board::Cut;
-use halves::Kept;
+use anyhow::anyhow;
 use real::{Change, print_cut};
 use std::{env, fs};
 use story::tell_set;
@@ -26,9 +24,8 @@ fn word(words: &[String], i: usize) -> &str {
 /// Prints what a cut in the commit of two databases left, and the recovered files.
 fn cut(rt: &HostRuntime, words: &[String]) -> anyhow::Result<()> {
     let call = word(words, 2).parse()?;
-    let kept = Kept::try_from(word(words, 3).parse::<u8>()?);
+    let kept = word(words, 3).parse()?;
     let [old_a, new_a, old_b, new_b] = [4, 5, 6, 7].try_map(|i| fs::read(rt, word(words, i)))?;
-    let kept = kept.ok().context("no such cut")?;
     let a = Change {
         old: old_a,
         new: new_a,
@@ -37,7 +34,7 @@ fn cut(rt: &HostRuntime, words: &[String]) -> anyhow::Result<()> {
         old: old_b,
         new: new_b,
     };
-    print_cut(rt, Cut::new(call, kept), &[a, b])
+    print_cut(rt, call, kept, &[a, b])
 }
 
 /// Does what the words ask for; without words it prints the report.

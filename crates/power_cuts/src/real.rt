@@ -4,6 +4,7 @@ use crate::board::{Cut, NONCE, ORIGIN, named, put};
 use anyhow::Context;
 use card::Card;
 use delayed_card::DelayedCard;
+use halves::Kept;
 use journal::PAGE;
 use refusal::Refusal;
 use store::{Set, Transaction};
@@ -79,15 +80,22 @@ fn print_files(rt: &HostRuntime, word: &str, card: &mut DelayedCard<'_>) -> anyh
 }
 
 /// Prints what a cut at a call of the commit left, and what a recovery makes of it. The first line
-/// tells whether power was lost.
-pub fn print_cut(rt: &HostRuntime, cut: Cut, changes: &[Change; 2]) -> anyhow::Result<()> {
+/// tells whether power was lost. A database that is too long is told before a number that no choice of
+/// what is kept has.
+pub fn print_cut(
+    rt: &HostRuntime,
+    call: u32,
+    kept: u8,
+    changes: &[Change; 2],
+) -> anyhow::Result<()> {
     let mut image = vec![in rt.alloc(); 0u8; IMAGE]?;
     let mut card = DelayedCard::new(&mut image, ORIGIN);
     for (name, change) in NAMES.iter().zip(changes) {
         let answer = put(&mut card, name, &change.old);
         answer.ok().context("a database is too long")?;
     }
-    cut.after_recovery(2).tell(&mut card)?;
+    let kept = Kept::try_from(kept).ok().context("no such cut")?;
+    Cut::new(call, kept).after_recovery(2).tell(&mut card)?;
     let mut set = Set::new(named(&NAMES)?, card);
     let _ = set.recover();
     let _ = transact(&mut set, changes);
