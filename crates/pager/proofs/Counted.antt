@@ -1,9 +1,10 @@
--- What the invariant of a memory tells a caller: a database has at most 32 changed pages, no page past the
--- four databases is changed, and the store of saved pages has as many rows as the savepoints have saved pages.
-use Rattle.std.proofs.Common.{◌≡◌, ℕ, suc, ◌+◌, ◌<◌, ◌≤◌, true, false, cond, eqb, Bool, ◌⊎◌, List, [], ◌∷◌, length, is_some, find, Some, sym, refl, ap, ◌∙◌, ap₂, inl, inr, arith}
+-- What the invariant of a memory tells a caller: a database has at most 32 changed pages, each of them is a page
+-- that a database can have, no page past the four databases is changed, and the store of saved pages has as many
+-- rows as the savepoints have saved pages.
+use Rattle.std.proofs.Common.{◌≡◌, ℕ, suc, ◌+◌, ◌<◌, ◌≤◌, true, false, cond, eqb, leb, Bool, ◌⊎◌, List, [], ◌∷◌, length, is_some, find, Some, sym, refl, ap, ◌∙◌, ap₂, inl, inr, arith}
 use Rattle.std.specs.Option.{option_map}
 use native.Mathlib.Decide.{ℕ_discrete, dec_lt}
-use Rattle.std.proofs.lemmas.Bool.{cases_Bool, cond-true, cond-false, eqb-true, eq-eqb, ne_eqb, and_parts, and_left, and_right, both_ways}
+use Rattle.std.proofs.lemmas.Bool.{cases_Bool, cond-true, cond-false, eqb-true, eq-eqb, ne_eqb, leb-true, and_parts, and_left, and_right, both_ways}
 use Rattle.card.specs.Meaning.{Bytes}
 use Rattle.page_map.specs.Sets.{PageSet, is_page, without, including, counted, total}
 use Rattle.page_map.proofs.Totals.{total_with, total_free, total_part}
@@ -105,6 +106,21 @@ bound (row ∷ rows) f covers = by (fewer row rows f covers) (bound rows)
     by (inl same) earlier = omega (arith, earlier f same)
     by (inr (g, (less, one))) earlier = omega (arith, earlier g less)
 
+-- and more, where a page stands in them that no database can have
+more : (rows : List ChangedPage) (f : ℕ → PageSet) (d p : ℕ) → Covers rows f → is_page p ≡ false → is_some (look rows d p) ≡ true → total f 4 < length rows
+unfolding Fewer look
+more [] f d p covers bad some = absurd (both_ways false refl some)
+more (row ∷ rows) f d p covers bad some = by (cases_Bool (is_row d p row)) (fewer row rows f covers) (λ g. more rows g d p)
+  where
+    by :
+        (is_row d p row ≡ true) ⊎ (is_row d p row ≡ false) → Fewer rows f → ((g : ℕ → PageSet) → Covers rows g → is_page p ≡ false → is_some (look rows d p) ≡ true → total g 4 < length rows) →
+        total f 4 < suc (length rows)
+    by (inl here) _ earlier =
+        let same : row.page ≡ p = eqb-true row.page p (and_parts (eqb row.database d) (eqb row.page p) here).1 in
+        omega (arith, bound rows f (miss row rows f covers (λ _ is _. both_ways _ bad (ap is_page (sym same) ∙ is))))
+    by (inr out) (inl same) earlier = omega (arith, earlier f same bad (later row rows d p out some))
+    by (inr out) (inr (g, (less, one))) earlier = omega (arith, earlier g less bad (later row rows d p out some))
+
 -- where a row has a page past the four databases, the rows are more than the pages that they cover
 spare : (rows : List ChangedPage) (f : ℕ → PageSet) (d p : ℕ) → Covers rows f → 4 ≤ d → is_some (look rows d p) ≡ true → total f 4 < length rows
 unfolding Fewer look
@@ -141,3 +157,26 @@ module _ (m : Memory) (d : ℕ) (lt : d < 4) where
   pub changed_few : counted (map_of m.maps d) 4096 ≤ 32
   changed_few =
       omega (arith, total_part (map_of m.maps) d 4 lt, changed_all m, m.changed.few)
+
+  -- a changed page is one that a database can have
+  pub changed_page : (p : ℕ) → map_of m.maps d p ≡ true → is_page p ≡ true
+  changed_page p in-it = by (cases_Bool (is_page p))
+    where
+      link : (e q : ℕ) → e < 4 → map_of m.maps e q ≡ is_some (look (fields m).changed e q)
+      link = linked m
+
+      by : (is_page p ≡ true) ⊎ (is_page p ≡ false) → is_page p ≡ true
+      by (inl is) = is
+      by (inr bad) =
+          absurd
+          (omega (
+            arith,
+            more (fields m).changed (map_of m.maps) d p (λ e q low _ t. sym (link e q low) ∙ t) bad (sym (link d p lt) ∙ in-it),
+            changed_all m,
+          ))
+
+  pub changed_low : (p : ℕ) → map_of m.maps d p ≡ true → 1 ≤ p
+  changed_low p in-it = leb-true 1 p (and_parts (leb 1 p) (leb p 4096) (changed_page p in-it)).0
+
+  pub changed_high : (p : ℕ) → map_of m.maps d p ≡ true → p ≤ 4096
+  changed_high p in-it = leb-true p 4096 (and_parts (leb 1 p) (leb p 4096) (changed_page p in-it)).1
